@@ -1,5 +1,5 @@
 -- The header of a log. A place is counted from the file's first byte; `end` is the file's length, and a field's place is `end` less the bytes from it on.
-use Rattle.std.specs.Prelude.{ℕ, ◌+◌, ◌-◌, ◌^◌, ℤ, pos, negsuc, List, [], ◌∷◌, length, take, drop, nat_lt, ◌||◌, if◌then◌else◌, Result, Ok, Err}
+use Rattle.std.specs.Prelude.{ℕ, ◌+◌, ◌-◌, ◌^◌, ℤ, pos, negsuc, List, [], ◌∷◌, length, nat_lt, ◌||◌, if◌then◌else◌, Result, Ok, Err}
 use Rattle.std.specs.Int.{Width, w16, w32, w64}
 use Rattle.flash_list.specs.Steps.{◌>>=◌, each_at}
 use Rattle.flash_list.specs.Fields.{number_at}
