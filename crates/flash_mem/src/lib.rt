@@ -1,0 +1,14 @@
+//! The outside in memory: sources and sinks that tell what they hold, and fail at chosen calls.
+#![tactic(auto)]
+
+mod failing;
+mod memory;
+mod sink;
+mod source;
+
+pub use memory::Memory;
+pub use sink::MemSink;
+pub use source::MemSource;
+
+#[cfg(test)]
+mod tests;
