@@ -1,8 +1,9 @@
 use super::*;
 use flash_io::{Failed, IntoError, Sink, Source, read_to_limit, write_all};
+use std::process::Abort;
 use std::test::*;
 
-fn source(rt: &HostRuntime, bytes: &[u8]) -> MemSource {
+fn source<R: Abort + AllocGlobal>(rt: &R, bytes: &[u8]) -> MemSource {
     let bytes = Vec::from_slice(rt.alloc(), bytes).expect(rt, "room");
     MemSource::new(rt.alloc(), bytes)
 }
