@@ -1,7 +1,9 @@
 //! The outside in memory: sources and sinks that tell what they hold, and fail at chosen calls.
 #![tactic(auto)]
 
+mod contents;
 mod failing;
+mod history;
 mod memory;
 mod sink;
 mod source;
