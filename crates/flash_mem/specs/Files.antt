@@ -1,5 +1,5 @@
 -- The files of a disk in memory, as an image.
-use Rattle.std.specs.Prelude.{ℕ, List, ◌++◌, ◌+◌, length, take, drop, Option, Vec, cond, nat_le}
+use Rattle.std.specs.Prelude.{ℕ, List, [], ◌++◌, ◌+◌, length, take, drop, Option, Some, None, Vec, cond, nat_le}
 use Rattle.std.specs.Option.{option_map}
 use Rattle.std.specs.Ordering.{nat_cmp, is_eq}
 use Rattle.std.specs.BTreeMap.{BTreeMap, get}
@@ -28,3 +28,8 @@ set_file file content image other = cond (is_eq (nat_cmp file other)) content (i
 -- the content with these bytes in the place of those from a place on, which is no later than its end
 abbrev pub written : ℕ → List ℕ → List ℕ → List ℕ
 written at bytes content = cond (nat_le at (length content)) (take at content ++ bytes ++ drop (at + length bytes) content) content
+
+-- the calls of a shared list, of which there may be none
+abbrev pub listed : Option (Arc (Vec ℕ Global) Global) → List ℕ
+listed None = []
+listed (Some list) = (arc_value list).items

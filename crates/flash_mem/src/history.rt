@@ -84,6 +84,7 @@ pub fn put(
     requires same { bytes_of content ≡ kept.items }
     ensures room { vec_len calls.new + btree_map_len files.new + btree_set_len unsynced.new ≤ vec_capacity calls.new }
     ensures noted { OnOk result (IsNoted (Create file kept) file calls.old.items calls.new.items (image_of files.old) (image_of files.new) (contains nat_cmp unsynced.new)) }
+    ensures either { IsKept calls.old.items calls.new.items (image_of files.old) (image_of files.new) ⊎ IsNoted (Create file kept) file calls.old.items calls.new.items (image_of files.old) (image_of files.new) (contains nat_cmp unsynced.new) }
     ensures kept { OnErr result (IsKept calls.old.items calls.new.items (image_of files.old) (image_of files.new)) }
     ensures others { (f : ℕ) → contains nat_cmp unsynced.new f ≡ false → contains nat_cmp unsynced.old f ≡ false }
 {
@@ -106,6 +107,7 @@ pub fn put_over(
     requires room { vec_len calls.old + btree_map_len files.old + btree_set_len unsynced.old ≤ vec_capacity calls.old }
     ensures room { vec_len calls.new + btree_map_len files.new + btree_set_len unsynced.new ≤ vec_capacity calls.new }
     ensures noted { OnOk result (IsNoted (Write file at kept) file calls.old.items calls.new.items (image_of files.old) (image_of files.new) (contains nat_cmp unsynced.new)) }
+    ensures either { IsKept calls.old.items calls.new.items (image_of files.old) (image_of files.new) ⊎ IsNoted (Write file at kept) file calls.old.items calls.new.items (image_of files.old) (image_of files.new) (contains nat_cmp unsynced.new) }
     ensures kept { OnErr result (IsKept calls.old.items calls.new.items (image_of files.old) (image_of files.new)) }
     ensures others { (f : ℕ) → contains nat_cmp unsynced.new f ≡ false → contains nat_cmp unsynced.old f ≡ false }
 {
@@ -136,12 +138,7 @@ pub fn settle(files: &Files, calls: &mut Vec<Call>, unsynced: &mut BTreeSet<File
 }
 
 /// Takes the file away, and notes it.
-pub fn take(
-    files: &mut Files,
-    calls: &mut Vec<Call>,
-    unsynced: &mut BTreeSet<FileId>,
-    file: FileId,
-)
+pub fn take(files: &mut Files, calls: &mut Vec<Call>, unsynced: &mut BTreeSet<FileId>, file: FileId)
     requires room { vec_len calls.old + btree_map_len files.old + btree_set_len unsynced.old ≤ vec_capacity calls.old }
     requires there { IsThere (image_of files.old) file }
     ensures room { vec_len calls.new + btree_map_len files.new + btree_set_len unsynced.new ≤ vec_capacity calls.new }
