@@ -47,7 +47,7 @@ written_torn at bytes content fits =
       no_longer = omega (arith, size);
     }
 
-torn_seen : (at : ℕ) (bytes : List ℕ) (file : Option (List ℕ)) → TornFile at (length bytes) file (option_map (written at bytes) file)
+pub torn_seen : (at : ℕ) (bytes : List ℕ) (file : Option (List ℕ)) → TornFile at (length bytes) file (option_map (written at bytes) file)
 torn_seen at bytes None = inl refl
 torn_seen at bytes (Some content) = ⊎_elim (λ fits. inr (content, take at content ++ bytes ++ drop (at + length bytes) content, refl, ap Some (whole fits), written_torn at bytes content fits)) (λ none. inl (ap Some (kept none))) (le_or_lt at (length content))
   where

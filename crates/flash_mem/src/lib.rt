@@ -3,9 +3,11 @@
 
 mod calls;
 mod contents;
+mod crash;
 mod disk;
 mod failing;
 mod history;
+mod made;
 mod memory;
 mod sink;
 mod source;
