@@ -40,6 +40,11 @@ pub record OpsCanBeWritten (ops : List Op) : Type 0 where
 abbrev pub IsPut : Op → Type 0
 IsPut o = IsTrue o.put
 
+pub record InstallCanBeWritten (conf_ver version : ℕ) (ops : List Op) : Type 0 where
+  pub epoch : IsEpoch conf_ver version
+  pub list : OpsCanBeWritten ops
+  pub puts : All IsPut ops
+
 abbrev pub BodyCanBeWritten : Body → Type 0
 BodyCanBeWritten (Open conf_ver version low high) = IsEpoch conf_ver version
 BodyCanBeWritten (Write ops) = OpsCanBeWritten ops
@@ -47,7 +52,7 @@ BodyCanBeWritten (Split at child) = Unit {0}
 BodyCanBeWritten (Prepare target) = Unit {0}
 BodyCanBeWritten (Commit source) = Unit {0}
 BodyCanBeWritten Remove = Unit {0}
-BodyCanBeWritten (Install conf_ver version low high ops) = IsEpoch conf_ver version × OpsCanBeWritten ops × All IsPut ops
+BodyCanBeWritten (Install conf_ver version low high ops) = InstallCanBeWritten conf_ver version ops
 BodyCanBeWritten Empty = Unit {0}
 
 pub record CanBeWritten (e : Entry) : Type 0 where
