@@ -1,5 +1,5 @@
 -- What the format can write.
-use Rattle.std.specs.Prelude.{◌≡◌, ℕ, ◌+◌, ◌^◌, ◌<◌, ◌≤◌, ℤ, Bool, true, false, List, [], ◌∷◌, length, Option, Some, None, IsTrue, FitsSigned}
+use Rattle.std.specs.Prelude.{◌≡◌, ℕ, ◌+◌, ◌^◌, ◌<◌, ◌≤◌, ℤ, Bool, true, false, List, [], ◌∷◌, length, Option, Some, None, IsTrue, FitsSigned, slice_index}
 use Rattle.std.specs.Int.{w64}
 use Rattle.std.specs.List.{All}
 use Rattle.log_codec.specs.declared.entry.Entry.{Entry}
@@ -83,3 +83,7 @@ pub record NumbersFit (e : Entry) : Type 0 where
 pub record HeaderNumbersFit (h : Header) : Type 0 where
   pub table : FitsSigned w64 h.table
   pub ids : All (λ c. c.id < 2 ^ 32) h.columns
+
+-- every byte is one
+abbrev pub AreBytes : List ℕ → Type 0
+AreBytes bytes = (i : ℕ) → slice_index bytes i < 256
