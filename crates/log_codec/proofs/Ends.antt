@@ -9,8 +9,8 @@ use Rattle.log_codec.specs.declared.fault.FrameError.TheVariants.{Short, Bad}
 use Rattle.log_codec.specs.declared.entry.Entry.{Entry}
 use Rattle.log_codec.specs.declared.entry.Frame.{Frame}
 use Rattle.flash_list.specs.Fields.{number_at}
-use Rattle.log_codec.specs.Header.{number_in}
-use Rattle.log_codec.specs.Frames.{payload_of, frame_at, framed}
+use Rattle.log_codec.specs.Fields.{passes, number_in}
+use Rattle.log_codec.specs.Frames.{payload_of, sized_at, frame_at, framed}
 
 pub bind_ok : {A B E : Type 0} (r : Result A E) (f : A → Result B E) (y : B) → (r >>= f) ≡ Ok y → (x : A) × (r ≡ Ok x) × (f x ≡ Ok y)
 bind_ok (Ok x) f y e = (x, refl, e)
@@ -38,7 +38,7 @@ number_in_takes least greatest fault end bytes x e =
     omega (arith, number_takes fault bytes a.0 a.1)
 
 pub frame_takes : (end : ℕ) (bytes : List ℕ) (x : Entry × List ℕ) → frame_at end bytes ≡ Ok x → length x.1 + 4 ≤ length bytes
-unfolding frame_at
+unfolding frame_at sized_at
 frame_takes end bytes x e =
     let a = bind_ok (number_in w32 0 16777216 (Short end) end bytes) (λ len. cond (ltb (length len.1) len.0) (Err (Short end)) (payload_of (end - length len.1 + len.0) (take len.0 len.1) >>= λ entry. Ok (entry, drop len.0 len.1))) x e in
     let g = guard_ok (ltb (length a.0.1) a.0.0) (Short end) (payload_of (end - length a.0.1 + a.0.0) (take a.0.0 a.0.1) >>= λ entry. Ok (entry, drop a.0.0 a.0.1)) x a.2 in

@@ -1,21 +1,27 @@
+// Frames: a length, and one entry as the payload.
 ghost use Rattle.std.specs.Prelude.{◌≡◌, ◌≤◌, ◌<◌, length, IfOk};
 ghost use Rattle.log_codec.specs.Faults.{Gives};
-ghost use Rattle.log_codec.specs.Frames.{high_at, open_at, write_at, body_at, entry_at, payload_of, frame_at, framed};
+ghost use Rattle.log_codec.specs.Frames.{entry_at, payload_of, sized_at, frame_at, framed};
 
-use crate::entry::{Body, Entry, Frame};
+use crate::body::body_of;
+use crate::entry::{Entry, Frame};
 use crate::fault::FrameError;
-use crate::field::{passes, signed, u8_in, u32_in, u64_in};
-use crate::op::ops_of;
-use flash_list::{u32_or, u64_or};
+use crate::field::{passes, u32_in, u64_in};
+use flash_list::u32_or;
 use std::alloc::Global;
 
 const MOST_PAYLOAD: u32 = 16_777_216;
 
-const MOST_EPOCH: u64 = (1 << 62) - 1;
-
 const MOST_INDEX: u64 = (1 << 63) - 1;
 
-/// The frame at this place of the file.
+/// The frame at this place of a log file: its entry, and the place behind it.
+///
+/// A frame is the payload's length in 4 bytes, at most 16,777,216, and the payload: the region in
+/// 4 bytes, the index in 8 (from 1 to 2^63 - 1), a kind byte, and the body. Numbers are
+/// big-endian. The faults are looked for from left to right: `Bad` at the length where it is above
+/// its limit, then `Short` where the file ends inside the frame, then `Bad` at the first field that
+/// holds what it may not or passes the payload's end, then `Long` at the first byte behind the
+/// body. `Memory` may stand in the place of any of them and of the frame.
 #[tactic(auto, unfolding(crate::specs::Frames::framed))]
 pub fn read_frame(alloc: Global, bytes: &[u8], at: usize) -> Result<Frame, FrameError>
     requires { at < length bytes.now }
@@ -32,19 +38,31 @@ pub fn read_frame(alloc: Global, bytes: &[u8], at: usize) -> Result<Frame, Frame
 fn frame_of(alloc: Global, end: u64, bytes: &[u8]) -> Result<(Entry, &[u8]), FrameError>
     ensures { Gives (λ x. (x.0, x.1.now)) result (frame_at end bytes.now) }
 {
-    let short = FrameError::Short { at: end };
-    let (len, rest) = u32_in(0, MOST_PAYLOAD, short, end, bytes)?;
+    let (len, rest) = u32_in(0, MOST_PAYLOAD, FrameError::Short { at: end }, end, bytes)?;
+    sized_of(alloc, end, len, rest)
+}
+
+#[tactic(auto, unfolding(crate::specs::Frames::sized_at))]
+fn sized_of(
+    alloc: Global,
+    end: u64,
+    len: u32,
+    bytes: &[u8],
+) -> Result<(Entry, &[u8]), FrameError>
+    ensures { Gives (λ x. (x.0, x.1.now)) result (sized_at end len bytes.now) }
+{
     let len = len as usize;
-    if rest.len() < len {
-        return Err(short);
+    if bytes.len() < len {
+        return Err(FrameError::Short { at: end });
     }
-    let stop = end.saturating_sub(rest.len() as u64) + len as u64;
-    let (payload, rest) = rest.split_at(len);
-    Ok((all_of(alloc, stop, payload)?, rest))
+    let stop = end.saturating_sub(bytes.len() as u64) + len as u64;
+    let (payload, rest) = bytes.split_at(len);
+    let entry = payload_of(alloc, stop, payload)?;
+    Ok((entry, rest))
 }
 
 #[tactic(auto, unfolding(crate::specs::Frames::payload_of))]
-fn all_of(alloc: Global, end: u64, bytes: &[u8]) -> Result<Entry, FrameError>
+fn payload_of(alloc: Global, end: u64, bytes: &[u8]) -> Result<Entry, FrameError>
     ensures { Gives (λ x. x) result (payload_of end bytes.now) }
 {
     let (entry, rest) = entry_of(alloc, end, bytes)?;
@@ -71,57 +89,4 @@ fn entry_of(alloc: Global, end: u64, bytes: &[u8]) -> Result<(Entry, &[u8]), Fra
         },
         rest,
     ))
-}
-
-#[tactic(auto, unfolding(crate::specs::Frames::body_at))]
-fn body_of(alloc: Global, end: u64, bytes: &[u8]) -> Result<(Body, &[u8]), FrameError>
-    ensures { Gives (λ x. (x.0, x.1.now)) result (body_at end bytes.now) }
-{
-    let (kind, rest) = u8_in(1, 2, passes(end, bytes), end, bytes)?;
-    if kind == 1 {
-        open_of(end, rest)
-    } else {
-        write_of(alloc, end, rest)
-    }
-}
-
-#[tactic(auto, unfolding(crate::specs::Frames::open_at))]
-fn open_of(end: u64, bytes: &[u8]) -> Result<(Body, &[u8]), FrameError>
-    ensures { Gives (λ x. (x.0, x.1.now)) result (open_at end bytes.now) }
-{
-    let (conf_ver, rest) = u64_in(0, MOST_EPOCH, passes(end, bytes), end, bytes)?;
-    let (version, rest) = u64_in(0, MOST_EPOCH, passes(end, rest), end, rest)?;
-    let (low, rest) = u64_or(passes(end, rest), rest)?;
-    let (high, rest) = high_of(end, rest)?;
-    let low = signed(low);
-    Ok((
-        Body::Open {
-            conf_ver,
-            version,
-            low,
-            high,
-        },
-        rest,
-    ))
-}
-
-#[tactic(auto, unfolding(crate::specs::Frames::high_at))]
-fn high_of(end: u64, bytes: &[u8]) -> Result<(Option<i64>, &[u8]), FrameError>
-    ensures { Gives (λ x. (x.0, x.1.now)) result (high_at end bytes.now) }
-{
-    let (flag, rest) = u8_in(0, 1, passes(end, bytes), end, bytes)?;
-    if flag == 0 {
-        return Ok((None, rest));
-    }
-    let (high, rest) = u64_or(passes(end, rest), rest)?;
-    Ok((Some(signed(high)), rest))
-}
-
-#[tactic(auto, unfolding(crate::specs::Frames::write_at))]
-fn write_of(alloc: Global, end: u64, bytes: &[u8]) -> Result<(Body, &[u8]), FrameError>
-    ensures { Gives (λ x. (x.0, x.1.now)) result (write_at end bytes.now) }
-{
-    let (count, rest) = u32_or(passes(end, bytes), bytes)?;
-    let (ops, rest) = ops_of(alloc, end, count, rest)?;
-    Ok((Body::Write { ops }, rest))
 }

@@ -1,9 +1,10 @@
 ghost use Rattle.std.specs.Prelude.{◌≡◌, ◌≤◌, length, IfOk};
 ghost use Rattle.log_codec.specs.Faults.{Gives};
+ghost use Rattle.flash_list.specs.Steps.{seen};
 ghost use Rattle.log_codec.specs.Header.{id_at, column_at, columns_at, header_at, headed};
 
 use crate::fault::FrameError;
-use crate::field::{passes, signed, u8_in, u16_in, u64_in};
+use crate::field::{passes, u8_in, u16_in, u64_in};
 use flash_list::{Items, u32_or, u64_or};
 use std::alloc::Global;
 
@@ -46,7 +47,7 @@ fn header_of(alloc: Global, end: u64, bytes: &[u8]) -> Result<(Header, &[u8]), F
     let (table, rest) = u64_or(short, rest)?;
     let (count, rest) = u16_in(0, MOST_COLUMNS, short, end, rest)?;
     let (columns, rest) = columns_of(alloc, end, count, rest)?;
-    let table = signed(table);
+    let table = table.cast_signed();
     Ok((Header { table, columns }, rest))
 }
 
@@ -74,7 +75,7 @@ fn columns_of(
 
 #[tactic(auto, unfolding(crate::specs::Header::column_at))]
 fn column_of(end: u64, least: u64, bytes: &[u8]) -> Result<(ColumnSpec, &[u8]), FrameError>
-    ensures { Gives (λ x. (x.0, x.1.now)) result (column_at end least bytes.now) }
+    ensures { seen (λ x. (x.0, x.1.now)) result ≡ column_at end least bytes.now }
 {
     let short = FrameError::Short { at: end };
     let (id, rest) = id_of(end, least, bytes)?;
@@ -84,7 +85,7 @@ fn column_of(end: u64, least: u64, bytes: &[u8]) -> Result<(ColumnSpec, &[u8]), 
 
 #[tactic(auto, unfolding(crate::specs::Header::id_at))]
 fn id_of(end: u64, least: u64, bytes: &[u8]) -> Result<(u32, &[u8]), FrameError>
-    ensures { Gives (λ x. (x.0, x.1.now)) result (id_at end least bytes.now) }
+    ensures { seen (λ x. (x.0, x.1.now)) result ≡ id_at end least bytes.now }
 {
     let (id, rest) = u32_or(FrameError::Short { at: end }, bytes)?;
     if (id as u64) < least {
