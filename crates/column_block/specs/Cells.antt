@@ -1,5 +1,5 @@
 -- The cells that a row has under a schema.
-use Rattle.std.specs.Prelude.{ℕ, ℤ, Bool, ◌||◌, ◌==◌, nat_eq, if◌then◌else◌, Option, Some, None, option_map, ok_or, List, [], ◌∷◌, length, Result, Ok, Err}
+use Rattle.std.specs.Prelude.{ℕ, ℤ, Bool, ◌||◌, ◌==◌, nat_eq, if◌then◌else◌, Option, Some, None, ok_or, List, [], ◌∷◌, length, Result, Ok}
 use Rattle.std.specs.Map.{lookup}
 use Rattle.byteorder.specs.Endian.{little_number, twos_complement}
 use Rattle.flash_list.specs.Steps.{◌>>=◌}
@@ -30,7 +30,7 @@ cell_of kind.Bytes bytes = Some (cell.Bytes bytes)
 -- a column's cell, by the row's values: null where the row has none, and the column's id where the width doesn't fit
 abbrev pub cell_in : Column → List (ℕ × List ℕ) → Result Cell ℕ
 cell_in column values = elim (lookup (nat_eq column.id) values) [
-  None ↦ Ok cell.Null
+  | None ↦ Ok cell.Null
   | Some bytes ↦ ok_or (cell_of column.kind bytes) column.id
 ]
 

@@ -24,6 +24,6 @@ pub record IsSchema (columns : List Column) : Type 0 where
 -- the columns, or why they make no schema
 abbrev pub schema_of : List Column → Result (List Column) SchemaError
 schema_of columns = elim (first_fall (ids columns)) [
-  Some at ↦ Err (Order (min at (2 ^ 32 - 1)))
+  | Some at ↦ Err (Order (min at (2 ^ 32 - 1)))
   | None ↦ if nat_lt 64 (length columns) then Err (TooMany (length columns)) else Ok columns
 ]

@@ -148,10 +148,7 @@ fn share_all(
 }
 
 // Adds one more owner of a version at the end. After `Err` the versions are as before.
-fn share(
-    one: &Arc<Version, Global>,
-    into: &mut Vec<Arc<Version, Global>>,
-) -> Result<(), Memory>
+fn share(one: &Arc<Version, Global>, into: &mut Vec<Arc<Version, Global>>) -> Result<(), Memory>
     ensures ok { OnOk result (map arc_value into.new.items ≡ map arc_value into.old.items ++ arc_value one.now ∷ []) }
     ensures err { OnErr result (map arc_value into.new.items ≡ map arc_value into.old.items) }
 {

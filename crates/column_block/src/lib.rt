@@ -15,5 +15,5 @@ pub use schema::{MAX_COLUMNS, Schema, SchemaError};
 #[derive(Clone, Copy, Debug, PartialEq, Eq)]
 pub struct Memory;
 
-
-
+#[cfg(test)]
+mod tests;

@@ -39,7 +39,6 @@ impl Model for Schema {
 }
 
 impl Schema {
-
     /// The schema of these columns. `Order` at the first id that isn't above the one before it;
     /// else `TooMany` where there are more than 64 columns.
     pub fn new(columns: Vec<Column>) -> Result<Schema, SchemaError>

@@ -1,4 +1,4 @@
-use Rattle.std.proofs.Common.{◌≡◌, ◌++◌, map, take, ap, ◌∙◌, arith}
+use Rattle.std.proofs.Common.{map, take, ap, ◌∙◌, arith}
 use Rattle.std.specs.Arc.{arc_value}
 use Rattle.column_block.proofs.Lists.{cut_back}
 use Rattle.column_block.proofs.block.share_all.Goals as goal

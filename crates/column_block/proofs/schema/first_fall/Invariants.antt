@@ -1,4 +1,4 @@
-use Rattle.std.proofs.Common.{◌≡◌, ◌-◌, get_or, drop, map}
+use Rattle.std.proofs.Common.{◌≡◌, ◌-◌, get_or, drop}
 use Rattle.column_block.specs.Schemas.{ids, first_fall, fall_after}
 use Rattle.column_block.proofs.schema.first_fall.Given as goal
 

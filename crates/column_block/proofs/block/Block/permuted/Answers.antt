@@ -1,4 +1,4 @@
-use Rattle.std.proofs.Common.{◌≡◌, ◌++◌, ◌+◌, map, take, slice_get, get_or, length, ◌<◌, Some, ap, sym, ◌∙◌, arith, subst, List}
+use Rattle.std.proofs.Common.{◌≡◌, ◌+◌, map, take, slice_get, get_or, length, ◌<◌, Some, ap, sym, arith, subst, List}
 use Rattle.std.proofs.lemmas.List.{length-map}
 use Rattle.std.specs.Arc.{arc_value}
 use Rattle.column_block.specs.declared.cell.Version.{Version}

@@ -1,4 +1,4 @@
-use Rattle.std.proofs.Common.{◌≡◌, slice_range, ap}
+use Rattle.std.proofs.Common.{slice_range, ap}
 use Rattle.std.specs.Arc.{arc_value}
 use Rattle.column_block.proofs.Lists.{part_of}
 use Rattle.column_block.proofs.block.Block.slice.Goals as goal
