@@ -6,10 +6,10 @@ use Rattle.std.proofs.lemmas.Bool.{le-ltb, lt-ltb, ltb-true, ltb-false}
 use Rattle.byteorder.specs.Endian.{little_number}
 use Rattle.row_codec.specs.Numbers.{numbers, fall_after, first_fall, bad_end_after, first_bad_end}
 
-pub length-numbers : (width count : ℕ) (bytes : List ℕ) → length (numbers width count bytes) ≡ count
+pub numbers_count : (width count : ℕ) (bytes : List ℕ) → length (numbers width count bytes) ≡ count
 unfolding numbers
-length-numbers width zero bytes = refl
-length-numbers width (suc count) bytes = ap suc (length-numbers width count (drop width bytes))
+numbers_count width zero bytes = refl
+numbers_count width (suc count) bytes = ap suc (numbers_count width count (drop width bytes))
 
 pub get_or-numbers : (width count : ℕ) (bytes : List ℕ) (k : ℕ) → k < count → get_or (numbers width count bytes) k 0 ≡ little_number width (drop (width * k) bytes)
 unfolding numbers
@@ -53,13 +53,13 @@ falls_here xs i before lt le = let e : nat_lt before (get_or xs i 0) ≡ false =
 pub at_most_here : (xs : List ℕ) (n k middle : ℕ) → first_fall xs ≡ None → middle < length xs → get_or xs middle 0 < n → k < middle + 1 → get_or xs k 0 < n
 at_most_here xs n k middle h within less lt =
     elim (nat_lt k middle) as (λ b. nat_lt k middle ≡ b → get_or xs k 0 < n) [
-      true ↦ λ e. omega (arith, rising xs k middle h (ltb-true k middle e) within)
+      | true ↦ λ e. omega (arith, rising xs k middle h (ltb-true k middle e) within)
       | false ↦ λ e. let same : k ≡ middle = omega (arith, ltb-false k middle e) in omega (arith, ap (λ i. get_or xs i 0) same)
     ] refl
 
 pub at_least_here : (xs : List ℕ) (n k middle : ℕ) → first_fall xs ≡ None → k < length xs → n < get_or xs middle 0 → middle ≤ k → n < get_or xs k 0
 at_least_here xs n k middle h within more le =
     elim (nat_lt middle k) as (λ b. nat_lt middle k ≡ b → n < get_or xs k 0) [
-      true ↦ λ e. omega (arith, rising xs middle k h (ltb-true middle k e) within)
+      | true ↦ λ e. omega (arith, rising xs middle k h (ltb-true middle k e) within)
       | false ↦ λ e. let same : k ≡ middle = omega (arith, ltb-false middle k e) in omega (arith, ap (λ i. get_or xs i 0) same)
     ] refl

@@ -1,5 +1,5 @@
 -- Rows, in row format 2.
-use Rattle.std.specs.Prelude.{◌≡◌, ◌<◌, ◌^◌, ℕ, zero, suc, ◌+◌, ◌-◌, ◌*◌, Option, Some, None, ◌==◌, not, ◌%◌, nat_lt, nat_eq, if◌then◌else◌, List, [], ◌∷◌, ◌++◌, length, map, take, drop, slice_index, zip, Result, Ok, Err}
+use Rattle.std.specs.Prelude.{Bool, true, false, ◌≡◌, ◌<◌, ◌^◌, ℕ, zero, suc, ◌+◌, ◌-◌, ◌*◌, Option, Some, None, ◌==◌, not, ◌%◌, nat_lt, nat_eq, if◌then◌else◌, List, [], ◌∷◌, ◌++◌, length, map, take, drop, slice_index, zip, Result, Ok, Err}
 use Rattle.std.specs.List.{list_any}
 use Rattle.std.specs.Map.{lookup}
 use Rattle.byteorder.specs.Endian.{little_number}
@@ -38,9 +38,9 @@ pub record AreParts (ids nulls ends values : List ℕ) : Type 0 where
 -- the row of these parts, if the ids rise in each list, and the end offsets don't fall and don't pass the values
 unfoldable pub checked_row : List ℕ → List ℕ → List ℕ → List ℕ → Result Row RowError
 checked_row ids nulls ends values = elim (first_fall ids) [
-  Some at ↦ Err (Order at)
+  | Some at ↦ Err (Order at)
   | None ↦ elim (first_fall nulls) [
-    Some at ↦ Err (Order (length ids + at))
+    | Some at ↦ Err (Order (length ids + at))
     | None ↦ elim (first_bad_end (length values) ends) [ Some at ↦ Err (Offset at) | None ↦ Ok (row_of ids nulls ends values) ]
   ]
 ]
@@ -65,12 +65,15 @@ row_at bytes =
 abbrev pub ids_of : Row → List ℕ
 ids_of row = map (λ (value : ℕ × List ℕ). value.0) row.0 ++ row.1
 
--- what the row has in a column, where it has the column: its bytes, or null. A column in both lists has its value.
+-- a column's field by its value and by whether it is null: a column that is both has its value
+abbrev pub field_among : Option (List ℕ) → Bool → Option (Option (List ℕ))
+field_among (Some bytes) null = Some (Some bytes)
+field_among None true = Some None
+field_among None false = None
+
+-- what the row has in a column, where it has the column: its bytes, or none where it is null
 abbrev pub field_of : Row → ℕ → Option (Option (List ℕ))
-field_of row id = elim (lookup (nat_eq id) row.0) [
-  Some bytes ↦ Some (Some bytes)
-  | None ↦ if list_any (nat_eq id) row.1 then Some None else None
-]
+field_of row id = field_among (lookup (nat_eq id) row.0) (list_any (nat_eq id) row.1)
 
 -- a field as its bytes, or none where it is null
 abbrev pub bytes_of : Field → Option (List ℕ)

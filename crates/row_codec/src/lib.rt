@@ -4,9 +4,9 @@
 
 mod numbers;
 mod row;
+mod value;
 mod view;
 
-
 pub use row::{Field, RowError};
+pub use value::{int, uint};
 pub use view::RowView;
-

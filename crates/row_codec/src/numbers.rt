@@ -37,6 +37,7 @@ pub(crate) struct Numbers<'a> {
 
 impl<'a> Model for Numbers<'a> {
     ghost use Rattle.std.specs.Prelude.{ℕ, List, ◌*◌, ◌≤◌, length};
+
     ghost Value = { List ℕ };
 
     ghost use Rattle.row_codec.specs.Numbers.{numbers, bytes_each};
@@ -48,9 +49,11 @@ impl<'a> Model for Numbers<'a> {
 
 impl<'a> Numbers<'a> {
     // So many numbers at the front of some bytes.
+    #[tactic(auto, using(crate::proofs::Lists::numbers_count))]
     pub(crate) fn new(bytes: &'a [u8], width: Width, count: usize) -> Numbers<'a>
         requires { bytes_each width * count ≤ length bytes.now }
-        ensures { result ≡ numbers (bytes_each width) count bytes.now }
+        ensures are { result ≡ numbers (bytes_each width) count bytes.now }
+        ensures len { length result ≡ count }
     {
         Numbers {
             bytes,

@@ -36,9 +36,10 @@ impl<'a> Model for RowView<'a> {
 }
 
 impl<'a> RowView<'a> {
-    /// Reads a row. Takes no memory. The refusals are looked for in this order: `Short` where there
+    /// Reads a row. It takes no memory. The refusals are looked for in this order: `Short` where there
     /// is no byte, `Version`, `Short` where the values don't begin within the bytes, `Order`,
     /// `Offset`. Flags but the lowest, and bytes behind the last value, are passed over.
+    #[tactic(auto, unfolding(crate::specs::Rows::row_at), using(crate::proofs::Views::ends_in_head))]
     pub fn read(bytes: &'a [u8]) -> Result<RowView<'a>, RowError>
         ensures { result ≡ row_at bytes.now }
     {
@@ -70,10 +71,10 @@ impl<'a> RowView<'a> {
         if let Some(k) = place_of(&self.ids, id) {
             return Some(Field::Value(value_at(&self.ends, self.values, k)));
         }
-        if place_of(&self.nulls, id).is_some() {
-            return Some(Field::Null);
+        match place_of(&self.nulls, id) {
+            Some(_) => Some(Field::Null),
+            None => None,
         }
-        None
     }
 
     /// The number of ids that the row names, those with a value and the null ones.
@@ -133,7 +134,13 @@ fn start_at(ends: &Numbers<'_>, k: usize) -> usize
 
 // Reads what stands behind the head, where an id and an end offset have so many bytes.
 #[tactic(auto, unfolding(crate::specs::Rows::row_behind_head))]
-fn behind_head(bytes: &[u8], id: Width, end: Width, count: u16, null_count: u16) -> Result<RowView<'_>, RowError>
+fn behind_head(
+    bytes: &[u8],
+    id: Width,
+    end: Width,
+    count: u16,
+    null_count: u16,
+) -> Result<RowView<'_>, RowError>
     ensures { result ≡ row_behind_head (bytes_each id) (bytes_each end) count null_count bytes.now }
 {
     let count = count as usize;
@@ -154,7 +161,12 @@ fn behind_head(bytes: &[u8], id: Width, end: Width, count: u16, null_count: u16)
 
 // The row of these parts, if their order is right.
 #[tactic(auto, unfolding(crate::specs::Rows::checked_row))]
-fn checked<'a>(ids: Numbers<'a>, nulls: Numbers<'a>, ends: Numbers<'a>, values: &'a [u8]) -> Result<RowView<'a>, RowError>
+fn checked<'a>(
+    ids: Numbers<'a>,
+    nulls: Numbers<'a>,
+    ends: Numbers<'a>,
+    values: &'a [u8],
+) -> Result<RowView<'a>, RowError>
     requires each_ends { length ends ≡ length ids }
     requires few { length ids < 2 ^ 16 }
     requires few_nulls { length nulls < 2 ^ 16 }

@@ -6,7 +6,7 @@ invariant-loop-low l = record {
   order : l.low ≤ l.high;
   within : l.high ≤ length l.all;
   below : (k : ℕ) → k < l.low → get_or l.all k 0 < l.number;
-  above : (k : ℕ) → l.high ≤ k → k < length l.all → l.number < get_or l.all k 0
+  above : (k : ℕ) → l.high ≤ k → k < length l.all → l.number < get_or l.all k 0;
 }
 
 abbrev pub decreases-loop-low : goal.decreases-loop-low
