@@ -3,9 +3,10 @@ use Rattle.std.proofs.Common.{◌≡◌, ℕ, ◌+◌, ◌-◌, ◌<◌, ◌≤�
 use Rattle.std.proofs.lemmas.List.{take-map, drop-map, map-append, take_more, length-map, get_or-map}
 use Rattle.std.proofs.Math.Seq.{take-append_seam}
 use Rattle.std.proofs.lemmas.Option.{slice_get-map, slice_get-get_or}
-use Rattle.std.proofs.lemmas.Bool.{le-ltb}
 use Rattle.column_block.specs.declared.column.Column.{Column}
-use Rattle.column_block.specs.Schemas.{ids, first_fall, fall_after}
+use Rattle.column_block.specs.Schemas.{ids}
+use Rattle.column_block.specs.Rising.{first_fall, fall_after}
+use Rattle.column_block.proofs.Rising.{falls_here}
 
 pub cut_back : {X Y : Type 0} (f : X → Y) (before now : List X) (n : ℕ) (more : List Y) → n ≡ length before → map f now ≡ map f before ++ more → map f (take n now) ≡ map f before
 cut_back f before now n more is h =
@@ -18,9 +19,6 @@ one_more f items order i old new x lt within is so_far added =
     let at : slice_get (map f items) (get_or order i 0) ≡ Some (f x) = slice_get-map f items (get_or order i 0) ∙ ap (option_map f) (slice_get-get_or items (get_or order i 0) x within ∙ ap Some (sym is)) in
     let more = take_more order i 0 lt in
     rw (added, map-append, more, map-append, so_far, at) refl
-
-pub falls_here : (xs : List ℕ) (i before : ℕ) → i < length xs → get_or xs i 0 ≤ before → fall_after before i (drop i xs) ≡ Some i
-falls_here xs i before lt le = let e : nat_lt before (get_or xs i 0) ≡ false = le-ltb before (get_or xs i 0) le in rw (drop-cons xs i 0, e) refl
 
 pub part_of : {X Y : Type 0} (f : X → Y) (items : List X) (from to : ℕ) → map f (take (to - from) (drop from items)) ≡ slice_range (map f items) from to
 part_of f items from to = rw (drop-map f from items, take-map f (to - from) (drop from items)) refl

@@ -1,5 +1,5 @@
 -- The cells that a row has under a schema.
-use Rattle.std.specs.Prelude.{ℕ, ℤ, Bool, ◌||◌, ◌==◌, nat_eq, if◌then◌else◌, Option, Some, None, ok_or, List, [], ◌∷◌, length, Result, Ok}
+use Rattle.std.specs.Prelude.{ℕ, ℤ, Bool, ◌||◌, ◌==◌, nat_eq, if◌then◌else◌, Option, Some, None, option_map, ok_or, List, [], ◌∷◌, length, Result, Ok, Err}
 use Rattle.std.specs.Map.{lookup}
 use Rattle.byteorder.specs.Endian.{little_number, twos_complement}
 use Rattle.flash_list.specs.Steps.{◌>>=◌}
@@ -13,31 +13,29 @@ use Rattle.column_block.specs.declared.cell.Cell.TheVariants as cell
 abbrev pub is_width : ℕ → Bool
 is_width n = n == 1 || n == 2 || n == 4 || n == 8
 
--- the bytes as a number, little-endian
-abbrev pub unsigned : List ℕ → ℕ
-unsigned bytes = little_number (length bytes) bytes
+-- the number that the bytes of a value are, little-endian, if their width is one of these
+abbrev pub uint_of : List ℕ → Option ℕ
+uint_of bytes = if is_width (length bytes) then Some (little_number (length bytes) bytes) else None
 
 -- the same, sign-extended
-abbrev pub signed : List ℕ → ℤ
-signed bytes = twos_complement (length bytes) (unsigned bytes)
+abbrev pub int_of : List ℕ → Option ℤ
+int_of bytes = if is_width (length bytes) then Some (twos_complement (length bytes) (little_number (length bytes) bytes)) else None
 
 -- the cell that the bytes of a value are in a column of a kind, if their width fits
 abbrev pub cell_of : Kind → List ℕ → Option Cell
-cell_of kind.Int bytes = if is_width (length bytes) then Some (cell.Int (signed bytes)) else None
-cell_of kind.Uint bytes = if is_width (length bytes) then Some (cell.Uint (unsigned bytes)) else None
+cell_of kind.Int bytes = option_map cell.Int (int_of bytes)
+cell_of kind.Uint bytes = option_map cell.Uint (uint_of bytes)
 cell_of kind.Bytes bytes = Some (cell.Bytes bytes)
 
--- a column's cell, by the row's values: null where the row has none, and the column's id where the width doesn't fit
-abbrev pub cell_in : Column → List (ℕ × List ℕ) → Result Cell ℕ
-cell_in column values = elim (lookup (nat_eq column.id) values) [
-  | None ↦ Ok cell.Null
-  | Some bytes ↦ ok_or (cell_of column.kind bytes) column.id
-]
+-- a column's cell: null where the row has no value in it, and the column's id where the width of the value doesn't fit
+abbrev pub cell_at : Column → Option (List ℕ) → Result Cell ℕ
+cell_at column None = Ok cell.Null
+cell_at column (Some bytes) = ok_or (cell_of column.kind bytes) column.id
 
 -- The cells of a row, in the schema's order, or the id of the first column whose value has a wrong width. A row is its values by their ids, and the ids that are null.
 abbrev pub cells_of : List Column → List (ℕ × List ℕ) × List ℕ → Result (List Cell) ℕ
 cells_of [] row = Ok []
 cells_of (column ∷ columns) row = do
-  first ← cell_in column row.0
+  first ← cell_at column (lookup (nat_eq column.id) row.0)
   others ← cells_of columns row
   Ok (first ∷ others)

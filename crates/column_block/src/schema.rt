@@ -1,6 +1,7 @@
 // Schemas.
 ghost use Rattle.std.specs.Prelude.{◌≡◌, ◌<◌, length, slice_get, Some};
-ghost use Rattle.column_block.specs.Schemas.{IsSchema, schema_of, first_fall, ids};
+ghost use Rattle.column_block.specs.Schemas.{IsSchema, schema_of, ids};
+ghost use Rattle.column_block.specs.Rising.{first_fall};
 
 use crate::column::Column;
 use std::alloc::Global;

@@ -9,9 +9,10 @@ use Rattle.std.proofs.Math.Seq.{get_or-append_right}
 use Rattle.std.proofs.lemmas.Option.{slice_get-get_or}
 use Rattle.row_codec.specs.declared.row.RowError.{RowError}
 use Rattle.row_codec.specs.declared.row.RowError.TheVariants.{Short}
-use Rattle.row_codec.specs.Numbers.{bad_end_after, first_bad_end, first_fall}
+use Rattle.row_codec.specs.Numbers.{bad_end_after, first_bad_end}
+use Rattle.column_block.specs.Rising.{first_fall}
 use Rattle.row_codec.specs.Rows.{Row, pieces, start_of, row_of, row_behind_head, ids_of, field_among, field_of}
-use Rattle.row_codec.proofs.Lists.{rising}
+use Rattle.column_block.proofs.Rising.{rising}
 
 -- bytes that end within the head are too short, whatever the counts are
 pub ends_in_head : (id end n m : ℕ) (bytes : List ℕ) → length bytes < 6 → row_behind_head id end n m bytes ≡ Err (Short (length bytes))
@@ -113,6 +114,14 @@ module _ (ids nulls ends values : List ℕ) (row : Row) (each : length ends ≡ 
   value_is k id value lt e piece =
       let here : slice_get ids k ≡ Some id = slice_get-get_or ids k 0 lt ∙ ap Some (sym e) in
       sym (ap (λ (r : Row). slice_get r.0 k) is) ∙ slice_get-zip ids (pieces 0 ends values) k id value here piece
+
+  pub lookup_is_value : (k id : ℕ) (value : List ℕ) → first_fall ids ≡ None → k < length ids → get_or ids k 0 ≡ id → slice_get (pieces 0 ends values) k ≡ Some value → Some value ≡ lookup (nat_eq id) row.0
+  lookup_is_value k id value rise lt e piece =
+      let found : lookup (nat_eq id) (zip ids (pieces 0 ends values)) ≡ Some value = lookup-zip ids (pieces 0 ends values) id k value piece lt e (λ i less same. absurd (omega (arith, rising ids i k rise less lt))) in
+      sym found ∙ ap (λ (r : Row). lookup (nat_eq id) r.0) is
+
+  pub lookup_is_none : (id : ℕ) → ((i : ℕ) → i < length ids → get_or ids i 0 ≢ id) → None ≡ lookup (nat_eq id) row.0
+  lookup_is_none id others = sym (lookup-zip-none ids (pieces 0 ends values) id others) ∙ ap (λ (r : Row). lookup (nat_eq id) r.0) is
 
   pub field_is_value : (k id : ℕ) (value : List ℕ) → first_fall ids ≡ None → k < length ids → get_or ids k 0 ≡ id → slice_get (pieces 0 ends values) k ≡ Some value → Some (Some value) ≡ field_of row id
   field_is_value k id value rise lt e piece =

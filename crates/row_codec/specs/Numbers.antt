@@ -14,15 +14,6 @@ unfoldable pub numbers : ℕ → ℕ → List ℕ → List ℕ
 numbers width zero bytes = []
 numbers width (suc count) bytes = little_number width bytes ∷ numbers width count (drop width bytes)
 
--- the place of the first number that isn't above the one before it
-abbrev pub fall_after : ℕ → ℕ → List ℕ → Option ℕ
-fall_after before place [] = None
-fall_after before place (x ∷ xs) = if nat_lt before x then fall_after x (place + 1) xs else Some place
-
-abbrev pub first_fall : List ℕ → Option ℕ
-first_fall [] = None
-first_fall (x ∷ xs) = fall_after x 1 xs
-
 -- the place of the first number that is below the one before it, or above the greatest that may be
 abbrev pub bad_end_after : ℕ → ℕ → ℕ → List ℕ → Option ℕ
 bad_end_after most before place [] = None
@@ -30,15 +21,3 @@ bad_end_after most before place (x ∷ xs) = if nat_le before x && nat_le x most
 
 abbrev pub first_bad_end : ℕ → List ℕ → Option ℕ
 first_bad_end most ends = bad_end_after most 0 0 ends
-
--- a number has 1, 2, 4 or 8 bytes
-abbrev pub is_width : ℕ → Bool
-is_width n = n == 1 || n == 2 || n == 4 || n == 8
-
--- the number that bytes are, little-endian, if their width is one of these
-abbrev pub uint_of : List ℕ → Option ℕ
-uint_of bytes = if is_width (length bytes) then Some (little_number (length bytes) bytes) else None
-
--- the same, sign-extended
-abbrev pub int_of : List ℕ → Option ℤ
-int_of bytes = if is_width (length bytes) then Some (twos_complement (length bytes) (little_number (length bytes) bytes)) else None

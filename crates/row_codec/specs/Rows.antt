@@ -7,7 +7,8 @@ use Rattle.row_codec.specs.declared.row.Field.{Field}
 use Rattle.row_codec.specs.declared.row.Field.TheVariants as field
 use Rattle.row_codec.specs.declared.row.RowError.{RowError}
 use Rattle.row_codec.specs.declared.row.RowError.TheVariants.{Short, Version, Order, Offset}
-use Rattle.row_codec.specs.Numbers.{numbers, first_fall, first_bad_end}
+use Rattle.column_block.specs.Rising.{first_fall}
+use Rattle.row_codec.specs.Numbers.{numbers, first_bad_end}
 
 -- a row: the values by the ids of their columns, and the ids of the columns that are null
 abbrev pub Row : Type 0

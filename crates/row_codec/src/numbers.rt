@@ -1,6 +1,7 @@
 // Packed numbers.
 ghost use Rattle.std.specs.Prelude.{◌≡◌, ◌≢◌, ◌<◌, ◌≤◌, ◌*◌, ◌+◌, ◌^◌, ℕ, None, drop, length, slice_index, IfSome, MatchOption};
-ghost use Rattle.row_codec.specs.Numbers.{numbers, bytes_each, first_fall, first_bad_end};
+ghost use Rattle.column_block.specs.Rising.{first_fall};
+ghost use Rattle.row_codec.specs.Numbers.{numbers, bytes_each, first_bad_end};
 ghost use Rattle.byteorder.specs.Endian.{little_number};
 
 use byteorder::{ByteOrder, LittleEndian};
@@ -138,4 +139,29 @@ pub(crate) fn place_of(all: &Numbers<'_>, number: u32) -> Option<usize>
         }
     }
     None
+}
+
+// The place of a number among numbers that rise. It is looked for first at a place where it may be.
+pub(crate) fn place_near(all: &Numbers<'_>, number: u32, near: usize) -> Option<usize>
+    requires { first_fall all.now ≡ None }
+    ensures { MatchOption result ((k : ℕ) → k < length all.now → slice_index all.now k ≢ number) (λ k. (k < length all.now) × (slice_index all.now k ≡ number)) }
+{
+    if near >= all.len() {
+        return place_of(all, number);
+    }
+    let here = all.at(near);
+    if here == number {
+        return Some(near);
+    }
+    if here < number {
+        return place_of(all, number);
+    }
+    if near == 0 {
+        return None;
+    }
+    let before = all.at(near - 1);
+    if before < number {
+        return None;
+    }
+    place_of(all, number)
 }

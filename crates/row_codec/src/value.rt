@@ -1,6 +1,6 @@
 // The numbers that values are.
 ghost use Rattle.std.specs.Prelude.{◌≡◌};
-ghost use Rattle.row_codec.specs.Numbers.{int_of, uint_of};
+ghost use Rattle.column_block.specs.Cells.{int_of, uint_of};
 
 use byteorder::{ByteOrder, LittleEndian};
 

@@ -1,9 +1,10 @@
 // The reader of a row.
-ghost use Rattle.std.specs.Prelude.{◌≡◌, ◌<◌, ◌≤◌, ◌+◌, ◌^◌, length, map, option_map, slice_get, None, Some};
+ghost use Rattle.std.specs.Prelude.{◌≡◌, ◌<◌, ◌≤◌, ◌+◌, ◌^◌, length, map, option_map, slice_get, nat_eq, None, Some};
+ghost use Rattle.std.specs.Map.{lookup};
 ghost use Rattle.row_codec.specs.Numbers.{bytes_each, first_bad_end};
 ghost use Rattle.row_codec.specs.Rows.{row_at, row_behind_head, checked_row, field_of, bytes_of, ids_of, pieces, start_of};
 
-use crate::numbers::{Numbers, Width, first_bad_end, first_fall, place_of};
+use crate::numbers::{Numbers, Width, first_bad_end, first_fall, place_near, place_of};
 use crate::row::{Field, RowError};
 use byteorder::{ByteOrder, LittleEndian};
 use std::marker::Model;
@@ -73,6 +74,18 @@ impl<'a> RowView<'a> {
         }
         match place_of(&self.nulls, id) {
             Some(_) => Some(Field::Null),
+            None => None,
+        }
+    }
+
+    /// The bytes of the value that the column with this id has. It is looked for first at the place
+    /// `near` among the columns that have a value, so that columns which are asked for in their
+    /// order are found at once.
+    pub fn value_near(&self, id: u32, near: u32) -> Option<&[u8]>
+        ensures { option_map (λ bytes. bytes.now) result ≡ lookup (nat_eq id) self.now.0 }
+    {
+        match place_near(&self.ids, id, near as usize) {
+            Some(k) => Some(value_at(&self.ends, self.values, k)),
             None => None,
         }
     }

@@ -1,5 +1,6 @@
 use Rattle.std.proofs.Common.{◌≡◌, ◌-◌, get_or, drop}
-use Rattle.column_block.specs.Schemas.{ids, first_fall, fall_after}
+use Rattle.column_block.specs.Schemas.{ids}
+use Rattle.column_block.specs.Rising.{first_fall, fall_after}
 use Rattle.column_block.proofs.schema.first_fall.Given as goal
 
 abbrev pub invariant-loop-i : goal.invariant-loop-i

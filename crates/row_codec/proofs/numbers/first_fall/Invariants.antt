@@ -1,5 +1,5 @@
 use Rattle.std.proofs.Common.{◌≡◌, ◌-◌, get_or, drop}
-use Rattle.row_codec.specs.Numbers.{first_fall, fall_after}
+use Rattle.column_block.specs.Rising.{first_fall, fall_after}
 use Rattle.row_codec.proofs.numbers.first_fall.Given as goal
 
 abbrev pub invariant-loop-i : goal.invariant-loop-i
