@@ -1,7 +1,7 @@
 -- Errors against the cells of a row.
 use Rattle.std.specs.Prelude.{◌≡◌, ℕ, Result, Err}
-use Rattle.row_decode.specs.declared.cells.DecodeError.{DecodeError}
-use Rattle.row_decode.specs.declared.cells.DecodeError.TheVariants.{Width, Memory}
+use Rattle.row_decode.specs.declared.decode.DecodeError.{DecodeError}
+use Rattle.row_decode.specs.declared.decode.DecodeError.TheVariants.{Width, Memory}
 
 -- The error is the one that the cells of the row have, or want of memory.
 abbrev pub IsCause : {X : Type 0} → Result X ℕ → DecodeError → Type 0

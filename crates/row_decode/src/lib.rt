@@ -1,8 +1,8 @@
 //! The cells of a row under a schema.
 #![tactic(auto)]
 
-mod cells;
+mod decode;
 mod known;
 
-pub use cells::{DecodeError, cells};
+pub use decode::{DecodeError, cells};
 pub use known::unknown_column;

@@ -34,9 +34,13 @@ pub fn cells(alloc: Global, row: &RowView<'_>, schema: &Schema) -> Result<Cells,
         if value.is_some() {
             near = near.saturating_add(1);
         }
-        let cell = cell(alloc, column, value)?;
-        if cells.push(cell).is_err() {
-            return Err(DecodeError::Memory);
+        match cell(alloc, column, value) {
+            Ok(cell) => {
+                if cells.push(cell).is_err() {
+                    return Err(DecodeError::Memory);
+                }
+            }
+            Err(error) => return Err(error),
         }
     }
     Ok(Items::from_vec(cells))
