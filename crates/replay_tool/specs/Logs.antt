@@ -17,6 +17,9 @@ use Rattle.log_codec.specs.Frames.{framed}
 use Rattle.flash_types.specs.declared.range.HandleRange.{HandleRange}
 use Rattle.flash_types.specs.Ranges.{holds}
 use Rattle.replay_tool.specs.declared.commit.Place.{Place}
+use Rattle.column_block.specs.declared.column.Column.{Column}
+use Rattle.column_block.specs.Schemas.{IsSchema}
+use Rattle.replay_tool.specs.Values.{columns_of, is_row}
 use Rattle.replay_tool.specs.Rows.{Commit, Rise}
 
 -- the frames of these entries stand in the file from this place to its end
@@ -53,6 +56,11 @@ abbrev pub put_value : WriteKind → Option (List ℕ) → Option (List ℕ)
 put_value kinds.Put short = short
 put_value other short = None
 
+-- a delete has no value to be a row
+abbrev pub has_row : List Column → Option (List ℕ) → Bool
+has_row columns None = true
+has_row columns (Some value) = is_row columns value
+
 -- what a put in the write family commits: on a record key of the table, a put record with its value
 unfoldable pub written : ℤ → List ℕ → List ℕ → Option Commit
 written table key value = do
@@ -63,9 +71,13 @@ written table key value = do
   put ← put_value write.kind write.short
   Some (record { handle = handle; ts = parts.1; value = Some put })
 
--- what an op commits: a put in the write family on a handle of the region
-unfoldable pub committed : Place → Op → Option Commit
-committed place op = (if op.put && is_write op.family then written place.table op.key op.value else None) >>= λ commit. if holds place.range commit.handle then Some commit else None
+-- a commit on a handle of the region, whose value is a row of these columns
+abbrev pub allowed : Place → List Column → Commit → Bool
+allowed place columns commit = holds place.range commit.handle && has_row columns commit.value
+
+-- what an op commits: a put in the write family
+unfoldable pub committed : Place → List Column → Op → Option Commit
+committed place columns op = (if op.put && is_write op.family then written place.table op.key op.value else None) >>= λ commit. if allowed place columns commit then Some commit else None
 
 -- what is given of each item and its place, in order; none where one gives none
 unfoldable pub gather : {X Y : Type 0} → (ℕ → X → Option (List Y)) → ℕ → List X → Option (List Y)
@@ -75,12 +87,12 @@ gather give place (x ∷ xs) = do
   later ← gather give (place + 1) xs
   Some (here ++ later)
 
-abbrev pub alone : Place → ℕ → Op → Option (List Commit)
-alone place k op = option_map (λ commit. commit ∷ []) (committed place op)
+abbrev pub alone : Place → List Column → ℕ → Op → Option (List Commit)
+alone place columns k op = option_map (λ commit. commit ∷ []) (committed place columns op)
 
 -- what ops commit, where each of them does
-abbrev pub all_committed : Place → List Op → Option (List Commit)
-all_committed place ops = gather (alone place) 0 ops
+abbrev pub all_committed : Place → List Column → List Op → Option (List Commit)
+all_committed place columns ops = gather (alone place columns) 0 ops
 
 -- the range that an Open gives its region
 abbrev pub opened : Body → Option HandleRange
@@ -96,22 +108,23 @@ abbrev pub ops_at : ℕ → ℕ → Entry → Option (List Op)
 ops_at region index entry = if entry.region == region && entry.index == index then written_ops entry.body else None
 
 -- what the k-th Write from this index on commits
-abbrev pub in_turn : Place → ℕ → ℕ → ℕ → Entry → Option (List Commit)
-in_turn place region index k entry = ops_at region (index + k) entry >>= all_committed place
+abbrev pub in_turn : Place → List Column → ℕ → ℕ → ℕ → Entry → Option (List Commit)
+in_turn place columns region index k entry = ops_at region (index + k) entry >>= all_committed place columns
 
 -- what Writes of the region commit, from this index on and with no gap
-abbrev pub commits_from : Place → ℕ → ℕ → List Entry → Option (List Commit)
-commits_from place region index writes = gather (in_turn place region index) 0 writes
+abbrev pub commits_from : Place → List Column → ℕ → ℕ → List Entry → Option (List Commit)
+commits_from place columns region index writes = gather (in_turn place columns region index) 0 writes
 
 -- The commits of a first log: of no entry, or of an Open and Writes of its region. None of others.
-unfoldable pub first_commits : ℤ → List Entry → Option (List Commit)
-first_commits table [] = Some []
-first_commits table (first ∷ writes) = opened first.body >>= λ range. commits_from (record { table = table; range = range }) first.region (first.index + 1) writes
+unfoldable pub first_commits : ℤ → List Column → List Entry → Option (List Commit)
+first_commits table columns [] = Some []
+first_commits table columns (first ∷ writes) = opened first.body >>= λ range. commits_from (record { table = table; range = range }) columns first.region (first.index + 1) writes
 
 -- The bytes are a first log with these commits.
 pub record IsFirstLog (bytes : List ℕ) (log : Log) (commits : List Commit) : Type 0 where
   pub read : IsLog bytes log
-  pub committed : first_commits log.header.table log.entries ≡ Some commits
+  pub schema : IsSchema (columns_of log.header.columns)
+  pub committed : first_commits log.header.table (columns_of log.header.columns) log.entries ≡ Some commits
   pub rise : Rise commits
 
 -- the bytes are no first log

@@ -8,6 +8,7 @@ mod rows;
 mod run;
 mod show;
 mod status;
+mod value;
 mod words;
 
 
