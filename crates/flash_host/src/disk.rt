@@ -139,8 +139,10 @@ impl<R: Files<File = File> + AllocGlobal + Clone + Drop> Disk for HostDisk<R> {
     }
 
     fn list(&mut self, alloc: Global) -> Result<Vec<FileId>, DiskFault> {
-        let answer = self.directory.list(alloc);
-        faulted(&mut self.faults, answer)
+        match self.directory.list(alloc) {
+            Ok(list) => Ok(list),
+            Err(error) => Err(counted(&mut self.faults, fault_of(&error))),
+        }
     }
 
     fn grip(&mut self, file: FileId) -> Result<HostGrip, DiskFault> {
