@@ -2,13 +2,13 @@
 //! and the words for readers that go over bytes step by step (`specs/Steps.antt`).
 #![tactic(auto)]
 
-mod bytes;
 mod fields;
 mod items;
+mod shared;
 
-pub use bytes::SharedBytes;
 pub use fields::{u8_or, u16_or, u32_or, u64_or};
 pub use items::{Bytes, Items};
+pub use shared::SharedBytes;
 
 #[cfg(test)]
 mod tests;

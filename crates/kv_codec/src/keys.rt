@@ -1,0 +1,189 @@
+ghost use Rattle.std.specs.Prelude.{◌≡◌, ◌<◌, ◌+◌, ◌^◌, ◌≤◌, length, IfSome};
+ghost use Rattle.flash_list.specs.Steps.{seen};
+ghost use Rattle.kv_codec.specs.Keys.{last_group, text_at, flipped, unflipped, record_at, parts_at, handle_in, handle_of, first_set};
+
+/// What is wrong with a key, and where.
+#[derive(Clone, Copy, Debug, PartialEq, Eq)]
+pub enum KeyError {
+    Short { at: u64 },
+    Marker { at: u64 },
+    Pad { at: u64 },
+    Long { at: u64 },
+}
+
+const SIGN: u64 = 1 << 63;
+
+const FULL: u8 = 0xFF;
+
+const EMPTY: u8 = 0xF7;
+
+// A number with the sign bit flipped.
+fn flip(number: i64) -> u64
+    ensures { result ≡ flipped number }
+{
+    if number < 0 {
+        (number - i64::MIN) as u64
+    } else {
+        number as u64 + SIGN
+    }
+}
+
+fn unflip(raw: u64) -> i64
+    ensures { result ≡ unflipped raw }
+{
+    if raw < SIGN {
+        raw as i64 + i64::MIN
+    } else {
+        (raw - SIGN) as i64
+    }
+}
+
+/// The handle, where the key is a record key of the table; none where it is well formed and isn't.
+#[tactic(auto, unfolding(crate::specs::Keys::record_at))]
+pub fn record_of(key: &[u8], table: i64) -> Result<Option<i64>, KeyError>
+    ensures { result ≡ record_at table key.now }
+{
+    check_groups(key)?;
+    Ok(handle_in(key, table))
+}
+
+// Tells where a key's groups are wrong.
+fn check_groups(key: &[u8]) -> Result<(), KeyError>
+    ensures { result ≡ seen (λ _. tt) (text_at 0 key.now) }
+{
+    let mut at = 0u64;
+    let mut rest = key;
+    while let [a, b, c, d, e, f, g, h, marker, after @ ..] = rest {
+        if *marker < EMPTY {
+            return Err(KeyError::Marker { at: at + 8 });
+        }
+        if *marker < FULL {
+            return check_last(
+                at,
+                &[*a, *b, *c, *d, *e, *f, *g, *h],
+                *marker - EMPTY,
+                after,
+            );
+        }
+        at += 9;
+        rest = after;
+    }
+    Err(KeyError::Short {
+        at: key.len() as u64,
+    })
+}
+
+// The group at this place is the last: so many of its bytes are of the text.
+fn check_last(at: u64, group: &[u8; 8], count: u8, after: &[u8]) -> Result<(), KeyError>
+    requires place { at < 2 ^ 63 }
+    requires count { count ≤ 8 }
+    ensures { result ≡ seen (λ _. tt) (last_group at group.now count after.now) }
+{
+    let (text, pads) = group.split_at(count as usize);
+    match first_set(pads) {
+        Some(pad) => Err(KeyError::Pad {
+            at: at + text.len() as u64 + pad as u64,
+        }),
+        None => match after {
+            [] => Ok(()),
+            [_, ..] => Err(KeyError::Long { at: at + 9 }),
+        },
+    }
+}
+
+// The place of the first byte that isn't zero.
+fn first_set(bytes: &[u8]) -> Option<usize>
+    ensures place { result ≡ first_set bytes.now }
+    ensures within { IfSome result (λ place. place < length bytes.now) }
+{
+    bytes.iter().position(|byte| *byte != 0)
+}
+
+// The handle in a well-formed key.
+#[tactic(auto, unfolding(crate::specs::Keys::handle_in))]
+fn handle_in(key: &[u8], table: i64) -> Option<i64>
+    ensures { result ≡ handle_in table key.now }
+{
+    let [
+        t,
+        t0,
+        t1,
+        t2,
+        t3,
+        t4,
+        t5,
+        t6,
+        _,
+        t7,
+        line,
+        r,
+        h0,
+        h1,
+        h2,
+        h3,
+        h4,
+        _,
+        h5,
+        h6,
+        h7,
+        _,
+        _,
+        _,
+        _,
+        _,
+        marker,
+    ] = key
+    else {
+        return None;
+    };
+    if *marker != 0xFA {
+        return None;
+    }
+    let text = [
+        *t, *t0, *t1, *t2, *t3, *t4, *t5, *t6, *t7, *line, *r, *h0, *h1, *h2, *h3, *h4, *h5, *h6,
+        *h7,
+    ];
+    handle_of(&text, table)
+}
+
+#[tactic(auto, unfolding(crate::specs::Keys::handle_of))]
+fn handle_of(text: &[u8], table: i64) -> Option<i64>
+    ensures { result ≡ handle_of table text.now }
+{
+    let [t, a, b, c, d, e, f, g, h, line, r, handle @ ..] = text else {
+        return None;
+    };
+    if *t != b't' {
+        return None;
+    }
+    if u64::from_be_bytes([*a, *b, *c, *d, *e, *f, *g, *h]) != flip(table) {
+        return None;
+    }
+    if *line != b'_' {
+        return None;
+    }
+    if *r != b'r' {
+        return None;
+    }
+    match handle {
+        [a, b, c, d, e, f, g, h] => Some(unflip(u64::from_be_bytes([
+            *a, *b, *c, *d, *e, *f, *g, *h,
+        ]))),
+        _ => None,
+    }
+}
+
+/// A key without its timestamp, and the timestamp.
+#[tactic(auto, unfolding(crate::specs::Keys::parts_at))]
+pub fn split_ts(key: &[u8]) -> Result<(&[u8], u64), KeyError>
+    ensures { seen (λ parts. (parts.0.now, parts.1)) result ≡ parts_at key.now }
+{
+    if key.len() < 8 {
+        return Err(KeyError::Short {
+            at: key.len() as u64,
+        });
+    }
+    let (front, ts) = key.split_at(key.len() - 8);
+    let flipped = u64::from_be_bytes([ts[0], ts[1], ts[2], ts[3], ts[4], ts[5], ts[6], ts[7]]);
+    Ok((front, u64::MAX - flipped))
+}

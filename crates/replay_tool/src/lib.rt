@@ -1,0 +1,15 @@
+//! The commands over a log, from bytes to bytes.
+#![tactic(auto)]
+
+mod commit;
+mod first;
+mod log;
+mod rows;
+mod run;
+mod show;
+mod status;
+mod words;
+
+
+
+pub use run::replay;

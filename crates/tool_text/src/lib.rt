@@ -1,0 +1,7 @@
+//! What the tool prints.
+#![tactic(auto)]
+
+mod row;
+
+pub use column_block::Memory;
+pub use row::print_row;
