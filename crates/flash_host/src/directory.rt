@@ -9,12 +9,11 @@ use crate::place::{Place, number_of};
 use flash_io::{DiskFault, FileId};
 use std::alloc::{AllocError, Global};
 use std::collections::BTreeSet;
-use std::fs;
 use std::fs::{File, OpenOptions};
-use std::io;
 use std::io::ErrorKind;
 use std::os::unix::fs::FileExt;
 use std::rt::Files;
+use std::{fs, io};
 
 /// The files of a directory, of which the one that was used last is kept open.
 #[derive(Drop)]

@@ -44,12 +44,7 @@ fn append_part(file: &File, at: u64, len: u32, into: &mut Vec<u8>) -> Result<usi
 }
 
 // Appends what one read gives, none only at the end or with no room.
-fn append_some(
-    file: &File,
-    at: u64,
-    room: usize,
-    into: &mut Vec<u8>,
-) -> Result<usize, DiskFault>
+fn append_some(file: &File, at: u64, room: usize, into: &mut Vec<u8>) -> Result<usize, DiskFault>
     ensures appended { IfOk result (λ n. HasPart n room into.old.items into.new.items) }
     ensures kept { OnErr result (into.new.items ≡ into.old.items) }
 {

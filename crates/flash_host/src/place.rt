@@ -1,11 +1,10 @@
 // The directory, and the names in it.
 use flash_io::FileId;
 use std::alloc::{AllocError, Global};
-use std::fs;
 use std::fs::{File, OpenOptions};
-use std::io;
 use std::io::ErrorKind;
 use std::rt::Files;
+use std::{fs, io};
 
 /// A directory, which is opened and locked at the first call that needs it.
 #[derive(Drop)]
