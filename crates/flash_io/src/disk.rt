@@ -2,7 +2,7 @@
 ghost use Rattle.std.specs.Prelude.{◌≡◌, ◌≤◌, ◌↔◌, ◌^◌, ◌-◌, ◌+◌, ◌++◌, min, List, ℕ, length, take, drop, OnOk, OnErr, IfOk, IsErrOf, Contains, None};
 ghost use Rattle.std.specs.List.Sorted.{IsStrictlyIncreasing};
 ghost use Rattle.flash_io.specs.Image.{Image, IsThere, Holds, HasPart, Written, SameBut};
-ghost use Rattle.flash_io.specs.Crash.{Created, Torn, Removed, SyncedTo, NoNew, Follows, Elapses};
+ghost use Rattle.flash_io.specs.Crash.{Created, Torn, Removed, SyncedTo, KeepsSynced, NoNew, SameOutcomes, Follows, Allows, Elapses};
 ghost use Rattle.flash_io.specs.Faults.{HasCause};
 ghost use Rattle.flash_io.specs.DiskFaults.{HasDiskCause};
 
@@ -57,7 +57,8 @@ pub trait Disk: Drop {
         ensures created { tells → OnOk result (Holds (files self.new) file bytes.now) }
         ensures others { SameBut file (files self.old) (files self.new) }
         ensures crash { Follows (Created file (length bytes.now)) (may_leave self.old) (may_leave self.new) }
-        ensures memory { IsErrOf result DiskFault.Memory → (files self.new ≡ files self.old) × NoNew (may_leave self.old) (may_leave self.new) }
+        ensures model { OnOk result (Allows (Created file (length bytes.now)) (may_leave self.old) (may_leave self.new)) }
+        ensures memory { IsErrOf result DiskFault.Memory → (files self.new ≡ files self.old) × SameOutcomes (may_leave self.old) (may_leave self.new) }
         ensures time { Elapses (moment self.old) (moment self.new) (left_since self.old) (left_since self.new) (may_leave self.new) }
         ensures cause { HasDiskCause (fault_count self.old) (fault_count self.new) result }
         ensures spared { never_fails self.old → never_fails self.new × (fault_count self.new ≡ fault_count self.old) }
@@ -70,7 +71,8 @@ pub trait Disk: Drop {
         ensures written { tells → OnOk result (Written file at bytes.now (files self.old) (files self.new)) }
         ensures others { SameBut file (files self.old) (files self.new) }
         ensures crash { Follows (Torn file at (length bytes.now)) (may_leave self.old) (may_leave self.new) }
-        ensures memory { IsErrOf result DiskFault.Memory → (files self.new ≡ files self.old) × NoNew (may_leave self.old) (may_leave self.new) }
+        ensures model { OnOk result (Allows (Torn file at (length bytes.now)) (may_leave self.old) (may_leave self.new)) }
+        ensures memory { IsErrOf result DiskFault.Memory → (files self.new ≡ files self.old) × SameOutcomes (may_leave self.old) (may_leave self.new) }
         ensures time { Elapses (moment self.old) (moment self.new) (left_since self.old) (left_since self.new) (may_leave self.new) }
         ensures cause { HasDiskCause (fault_count self.old) (fault_count self.new) result }
         ensures spared { never_fails self.old → never_fails self.new × (fault_count self.new ≡ fault_count self.old) }
@@ -90,7 +92,7 @@ pub trait Disk: Drop {
         ensures told { tells → OnOk result ((content : List ℕ) × Holds (files self.old) file content × (into.new.items ≡ into.old.items ++ take len (drop at content))) }
         ensures kept { OnErr result (into.new.items ≡ into.old.items) }
         ensures files { files self.new ≡ files self.old }
-        ensures crash { NoNew (may_leave self.old) (may_leave self.new) }
+        ensures crash { SameOutcomes (may_leave self.old) (may_leave self.new) }
         ensures time { Elapses (moment self.old) (moment self.new) (left_since self.old) (left_since self.new) (may_leave self.new) }
         ensures cause { HasDiskCause (fault_count self.old) (fault_count self.new) result }
         ensures spared { never_fails self.old → never_fails self.new × (fault_count self.new ≡ fault_count self.old) }
@@ -101,7 +103,7 @@ pub trait Disk: Drop {
         requires there { tells → IsThere (files self.old) file }
         ensures length { tells → IfOk result (λ n. (content : List ℕ) × Holds (files self.old) file content × (length content ≡ n)) }
         ensures files { files self.new ≡ files self.old }
-        ensures crash { NoNew (may_leave self.old) (may_leave self.new) }
+        ensures crash { SameOutcomes (may_leave self.old) (may_leave self.new) }
         ensures time { Elapses (moment self.old) (moment self.new) (left_since self.old) (left_since self.new) (may_leave self.new) }
         ensures cause { HasCause (fault_count self.old) (fault_count self.new) result }
         ensures spared { never_fails self.old → never_fails self.new × (fault_count self.new ≡ fault_count self.old) }
@@ -114,6 +116,7 @@ pub trait Disk: Drop {
         ensures durable { OnOk result (SyncedTo file (files self.old) (may_leave self.new)) }
         ensures files { files self.new ≡ files self.old }
         ensures crash { NoNew (may_leave self.old) (may_leave self.new) }
+        ensures model { OnOk result (KeepsSynced file (files self.old) (may_leave self.old) (may_leave self.new)) }
         ensures time { Elapses (moment self.old) (moment self.new) (left_since self.old) (left_since self.new) (may_leave self.new) }
         ensures cause { HasCause (fault_count self.old) (fault_count self.new) result }
         ensures spared { never_fails self.old → never_fails self.new × (fault_count self.new ≡ fault_count self.old) }
@@ -125,6 +128,7 @@ pub trait Disk: Drop {
         ensures gone { tells → OnOk result (files self.new file ≡ None) }
         ensures others { SameBut file (files self.old) (files self.new) }
         ensures crash { Follows (Removed file) (may_leave self.old) (may_leave self.new) }
+        ensures model { OnOk result (Allows (Removed file) (may_leave self.old) (may_leave self.new)) }
         ensures time { Elapses (moment self.old) (moment self.new) (left_since self.old) (left_since self.new) (may_leave self.new) }
         ensures cause { HasCause (fault_count self.old) (fault_count self.new) result }
         ensures spared { never_fails self.old → never_fails self.new × (fault_count self.new ≡ fault_count self.old) }
@@ -135,7 +139,7 @@ pub trait Disk: Drop {
         ensures rising { IfOk result (λ list. IsStrictlyIncreasing list.items) }
         ensures each { tells → IfOk result (λ list. (file : ℕ) → Contains list.items file ↔ IsThere (files self.old) file) }
         ensures files { files self.new ≡ files self.old }
-        ensures crash { NoNew (may_leave self.old) (may_leave self.new) }
+        ensures crash { SameOutcomes (may_leave self.old) (may_leave self.new) }
         ensures time { Elapses (moment self.old) (moment self.new) (left_since self.old) (left_since self.new) (may_leave self.new) }
         ensures cause { HasDiskCause (fault_count self.old) (fault_count self.new) result }
         ensures spared { never_fails self.old → never_fails self.new × (fault_count self.new ≡ fault_count self.old) }
@@ -146,7 +150,7 @@ pub trait Disk: Drop {
         requires there { tells → IsThere (files self.old) file }
         ensures bytes { tells → IfOk result (λ grip. Self.Reader.Grip.tells × Holds (files self.old) file (Self.Reader.Grip.bytes grip)) }
         ensures files { files self.new ≡ files self.old }
-        ensures crash { NoNew (may_leave self.old) (may_leave self.new) }
+        ensures crash { SameOutcomes (may_leave self.old) (may_leave self.new) }
         ensures time { Elapses (moment self.old) (moment self.new) (left_since self.old) (left_since self.new) (may_leave self.new) }
         ensures cause { HasDiskCause (fault_count self.old) (fault_count self.new) result }
         ensures spared { never_fails self.old → never_fails self.new × (fault_count self.new ≡ fault_count self.old) }
@@ -162,7 +166,7 @@ pub trait Disk: Drop {
         ensures spared { never_fails self.old → never_fails self.new }
         ensures readers { reader_fault_count self.new ≡ min (2 ^ 64 - 1) (reader_fault_count self.old + Self.Reader.fault_count reader) }
         ensures files { files self.new ≡ files self.old }
-        ensures crash { NoNew (may_leave self.old) (may_leave self.new) }
+        ensures crash { SameOutcomes (may_leave self.old) (may_leave self.new) }
         ensures time { Elapses (moment self.old) (moment self.new) (left_since self.old) (left_since self.new) (may_leave self.new) }
         ensures counted { fault_count self.new ≡ fault_count self.old };
 

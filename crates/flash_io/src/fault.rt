@@ -2,6 +2,7 @@
 ghost use Rattle.std.specs.Prelude.{◌≡◌};
 ghost use Rattle.flash_io.specs.declared.fault.DiskFault.TheVariants as faults;
 
+use crate::stream::Failed;
 use std::alloc::{AllocError, AllocFailed};
 
 /// Why a disk's call didn't do its work.
@@ -26,5 +27,13 @@ impl<T: Drop> From<AllocFailed<T>> for DiskFault {
 
     fn from(_error: AllocFailed<T>) -> DiskFault {
         DiskFault::Memory
+    }
+}
+
+impl From<Failed> for DiskFault {
+    ghost from_gives = { λ _ e. e ≡ faults.Failed };
+
+    fn from(_error: Failed) -> DiskFault {
+        DiskFault::Failed
     }
 }

@@ -4,7 +4,7 @@ use Rattle.std.proofs.Common.{◌≡◌, ◌≢◌, ◌⊎◌, inl, inr, ⊎_eli
 use Rattle.std.proofs.lemmas.Grind.{common_steps}
 use Rattle.std.proofs.lemmas.Bool.{cases_eq}
 use Rattle.flash_io.specs.Image.{Image, SameBut, Holds, IsThere}
-use Rattle.flash_io.specs.Crash.{Created, Torn, Removed, Follows, NoNew, SyncedTo, Elapses}
+use Rattle.flash_io.specs.Crash.{Created, Torn, Removed, Follows, Allows, NoNew, SyncedTo, KeepsSynced, Elapses}
 use Rattle.flash_io.proofs.Moments.{same_but_refl}
 use Rattle.flash_mem.specs.declared.history.Call.{Call}
 use Rattle.flash_mem.specs.declared.history.Call.TheVariants as call
@@ -25,6 +25,10 @@ module _ (base : Image) where
   -- a call was noted
   pub before_it : (calls later : List Call) (c : Call) → later ≡ calls ++ c ∷ [] → (image : Image) → MayLeave base later image → (old : Image) × MayLeave base calls old × Step c (seen_at_last base calls) old image
   before_it calls later c same image left = transport (Leaves-push base (λ d. d ≡ base) calls c image) (subst (λ (l : List Call). MayLeave base l image) same left)
+
+  -- and what its step allows is left
+  pub after_it : (calls later : List Call) (c : Call) → later ≡ calls ++ c ∷ [] → (old image : Image) → MayLeave base calls old → Step c (seen_at_last base calls) old image → MayLeave base later image
+  after_it calls later c same old image left step = subst (λ (l : List Call). MayLeave base l image) (sym same) (transport (sym (Leaves-push base (λ d. d ≡ base) calls c image)) (old, left, step))
 
   pub elapses_one : (calls later : List Call) (c : Call) → later ≡ calls ++ c ∷ [] → Elapses (length calls) (length later) (LeftSince base calls) (LeftSince base later) (MayLeave base later)
   elapses_one calls later c same = subst (λ (l : List Call). Elapses (length calls) (length l) (LeftSince base calls) (LeftSince base l) (MayLeave base l)) (sym same) (elapses_push base calls c)
@@ -86,6 +90,12 @@ write_others file at bytes image = same_but_set file (option_map (written at byt
 pub create_crash : (base : Image) (file : ℕ) (bytes : Vec ℕ Global) (calls later : List Call) → later ≡ calls ++ call.Create file bytes ∷ [] → Follows (Created file (length bytes.items)) (MayLeave base calls) (MayLeave base later)
 create_crash base file bytes calls later same image left = before_it base calls later (call.Create file bytes) same image left
 
+pub create_model : (base : Image) (file : ℕ) (bytes : Vec ℕ Global) (calls later : List Call) → later ≡ calls ++ call.Create file bytes ∷ [] → Allows (Created file (length bytes.items)) (MayLeave base calls) (MayLeave base later)
+create_model base file bytes calls later same old image left step = after_it base calls later (call.Create file bytes) same old image left step
+
+pub write_model : (base : Image) (file at : ℕ) (bytes : Vec ℕ Global) (calls later : List Call) → later ≡ calls ++ call.Write file at bytes ∷ [] → Allows (Torn file at (length bytes.items)) (MayLeave base calls) (MayLeave base later)
+write_model base file at bytes calls later same old image left step = after_it base calls later (call.Write file at bytes) same old image left step
+
 pub created_same : (file n : ℕ) (image : Image) → Created file n image image
 created_same file n image = (same_but_refl file image, inr (inl refl))
 
@@ -133,6 +143,11 @@ module _ (base : Image) (file : ℕ) (calls later : List Call) (files : Image) (
       (λ changed. let from = before_it base calls later (call.Sync file) (noted changed) image left in subst (MayLeave base calls) (sym from.2.0) from.1)
       (λ unchanged. subst (λ (l : List Call). MayLeave base l image) (none unchanged) left) changed_or_not
 
+  pub sync_model : KeepsSynced file files (MayLeave base calls) (MayLeave base later)
+  sync_model image left is = ⊎_elim
+      (λ changed. after_it base calls later (call.Sync file) (noted changed) image image left (refl, is ∙ reads file))
+      (λ unchanged. subst (λ (l : List Call). MayLeave base l image) (sym (none unchanged)) left) changed_or_not
+
   pub sync_time : Elapses (length calls) (length later) (LeftSince base calls) (LeftSince base later) (MayLeave base later)
   sync_time = ⊎_elim (λ changed. elapses_one base calls later (call.Sync file) (noted changed)) (λ unchanged. elapses_none base calls later (none unchanged)) changed_or_not
 
@@ -151,3 +166,6 @@ module _ (base : Image) (file : ℕ) (calls later : List Call) (files now : Imag
 
   pub remove_crash : Follows (Removed file) (MayLeave base calls) (MayLeave base later)
   remove_crash image left = before_it base calls later (call.Remove file) noted image left
+
+  pub remove_model : Allows (Removed file) (MayLeave base calls) (MayLeave base later)
+  remove_model old image left step = after_it base calls later (call.Remove file) noted old image left step

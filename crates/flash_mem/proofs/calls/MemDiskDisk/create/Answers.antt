@@ -1,11 +1,11 @@
 use Rattle.std.proofs.Common.{rules, ◌≡◌, length, refl, subst}
 use Rattle.std.specs.Ordering.{nat_cmp}
 use Rattle.std.specs.BTreeSet.{contains}
-use Rattle.flash_io.specs.Crash.{Follows, Created}
+use Rattle.flash_io.specs.Crash.{Follows, Allows, Created}
 use Rattle.flash_mem.specs.Files.{image_of}
 use Rattle.flash_mem.specs.Laws.{MayLeave}
 use Rattle.flash_mem.specs.declared.history.Call.TheVariants as call
-use Rattle.flash_mem.proofs.OneCall.{follows_same, created_same, create_crash, elapses_one, put_reads, put_settled, create_others}
+use Rattle.flash_mem.proofs.OneCall.{follows_same, create_model, created_same, create_crash, elapses_one, put_reads, put_settled, create_others}
 use Rattle.flash_mem.proofs.calls.MemDiskDisk.create.Goals as goal
 
 pub returns-then-fails-clause-crash : goal.returns-then-fails-clause-crash
@@ -42,3 +42,9 @@ returns-clause-crash c =
 
 pub returns-clause-time : goal.returns-clause-time
 returns-clause-time c = elapses_one (image_of c.args.self.now.base) c.args.self.now.history.items c.put.new.calls.items (call.Create c.args.file c.in_ok-kept.kept) c.in_ok-put.ensures.noted.calls_noted
+
+pub returns-clause-model : goal.returns-clause-model
+returns-clause-model c =
+    let size : length c.in_ok-kept.kept.items ≡ length c.args.bytes.now = search rules in
+    subst (λ n. Allows (Created c.args.file n) (MayLeave (image_of c.args.self.now.base) c.args.self.now.history.items) (MayLeave (image_of c.args.self.now.base) c.put.new.calls.items)) size
+    (create_model (image_of c.args.self.now.base) c.args.file c.in_ok-kept.kept c.args.self.now.history.items c.put.new.calls.items c.in_ok-put.ensures.noted.calls_noted)

@@ -1,7 +1,7 @@
 use Rattle.std.specs.Ordering.{nat_cmp}
 use Rattle.std.specs.BTreeSet.{contains}
 use Rattle.flash_mem.specs.Files.{image_of}
-use Rattle.flash_mem.proofs.OneCall.{sync_reads, sync_settled, sync_durable, sync_crash, sync_time}
+use Rattle.flash_mem.proofs.OneCall.{sync_reads, sync_settled, sync_durable, sync_crash, sync_model, sync_time}
 use Rattle.flash_mem.proofs.calls.MemDiskDisk.sync.Goals as goal
 
 pub invariant_of-self-2-clause-reads : goal.invariant_of-self-2-clause-reads
@@ -33,3 +33,9 @@ returns-clause-time c =
     let self = c.args.self.now in
     let e = c.settle.ensures in
     sync_time (image_of self.base) c.args.file self.history.items c.settle.new.calls.items (image_of self.files) (contains nat_cmp self.unsynced) (contains nat_cmp c.settle.new.unsynced) self.reads self.settled e.calls e.same e.others
+
+pub returns-clause-model : goal.returns-clause-model
+returns-clause-model c =
+    let self = c.args.self.now in
+    let e = c.settle.ensures in
+    sync_model (image_of self.base) c.args.file self.history.items c.settle.new.calls.items (image_of self.files) (contains nat_cmp self.unsynced) (contains nat_cmp c.settle.new.unsynced) self.reads self.settled e.calls e.same e.others
