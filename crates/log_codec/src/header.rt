@@ -23,7 +23,7 @@ pub struct Header {
     pub columns: ColumnSpecs,
 }
 
-const MAGIC: u64 = 0x464C_4153_484C_4F47;
+pub(crate) const MAGIC: u64 = 0x464C_4153_484C_4F47;
 
 const MOST_COLUMNS: u16 = 64;
 
