@@ -1,5 +1,5 @@
 -- Lists of pointers and of what they point to, and the search for a fall.
-use Rattle.std.proofs.Common.{◌≡◌, ℕ, ◌+◌, ◌-◌, ◌<◌, ◌≤◌, List, [], ◌∷◌, ◌++◌, length, map, take, drop, get_or, slice_get, slice_range, Some, refl, sym, ap, ◌∙◌, nat_lt, option_map, false, arith, drop-cons}
+use Rattle.std.proofs.Common.{◌≡◌, ℕ, ◌+◌, ◌-◌, ◌<◌, ◌≤◌, List, [], ◌∷◌, ◌++◌, length, map, take, drop, get_or, slice_get, slice_range, Some, refl, sym, ap, ◌∙◌, option_map, arith}
 use Rattle.std.proofs.lemmas.List.{take-map, drop-map, map-append, take_more, length-map, get_or-map}
 use Rattle.std.proofs.Math.Seq.{take-append_seam}
 use Rattle.std.proofs.lemmas.Option.{slice_get-map, slice_get-get_or}

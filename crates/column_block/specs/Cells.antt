@@ -1,5 +1,5 @@
 -- The cells that a row has under a schema.
-use Rattle.std.specs.Prelude.{ℕ, ℤ, Bool, ◌||◌, ◌==◌, nat_eq, if◌then◌else◌, Option, Some, None, option_map, ok_or, List, [], ◌∷◌, length, Result, Ok, Err}
+use Rattle.std.specs.Prelude.{ℕ, ℤ, Bool, ◌||◌, ◌==◌, nat_eq, if◌then◌else◌, Option, Some, None, option_map, ok_or, List, [], ◌∷◌, length, Result, Ok}
 use Rattle.std.specs.Map.{lookup}
 use Rattle.byteorder.specs.Endian.{little_number, twos_complement}
 use Rattle.flash_list.specs.Steps.{◌>>=◌}

@@ -1,5 +1,5 @@
 -- Which columns make a schema.
-use Rattle.std.specs.Prelude.{◌≡◌, ℕ, ◌+◌, ◌-◌, ◌^◌, ◌≤◌, min, List, [], ◌∷◌, length, map, nat_lt, if◌then◌else◌, Option, Some, None, Result, Ok, Err}
+use Rattle.std.specs.Prelude.{◌≡◌, ℕ, ◌-◌, ◌^◌, ◌≤◌, min, List, length, map, nat_lt, if◌then◌else◌, Some, None, Result, Ok, Err}
 use Rattle.column_block.specs.declared.column.Column.{Column}
 use Rattle.column_block.specs.declared.schema.SchemaError.{SchemaError}
 use Rattle.column_block.specs.Rising.{first_fall}

@@ -40,6 +40,6 @@ before_all xs n k h less within same = let more = at_least_here xs n k 0 h withi
 pub between : (xs : List ℕ) (n near k : ℕ) → first_fall xs ≡ None → near < length xs → n < get_or xs near 0 → get_or xs (near - 1) 0 < n → k < length xs → get_or xs k 0 ≡ n → ⊥
 between xs n near k h lt more less within same =
     elim (nat_lt k near) as (λ b. nat_lt k near ≡ b → ⊥) [
-      true ↦ λ e. absurd (omega (arith, same, at_most_here xs n k (near - 1) h (omega arith) less (omega (arith, ltb-true k near e))))
+      | true ↦ λ e. absurd (omega (arith, same, at_most_here xs n k (near - 1) h (omega arith) less (omega (arith, ltb-true k near e))))
       | false ↦ λ e. absurd (omega (arith, same, at_least_here xs n k near h within more (ltb-false k near e)))
     ] refl

@@ -10,3 +10,6 @@ mod view;
 pub use row::{Field, RowError};
 pub use value::{int, uint};
 pub use view::RowView;
+
+#[cfg(test)]
+mod tests;

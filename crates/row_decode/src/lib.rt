@@ -6,3 +6,6 @@ mod known;
 
 pub use decode::{DecodeError, cells};
 pub use known::unknown_column;
+
+#[cfg(test)]
+mod tests;

@@ -1,5 +1,5 @@
 -- The text of rows.
-use Rattle.std.specs.Prelude.{ℕ, ◌+◌, ◌/◌, ◌%◌, List, [], ◌∷◌, ◌++◌, nat_lt, if◌then◌else◌, codes}
+use Rattle.std.specs.Prelude.{◌≡◌, ℕ, take, length, ◌+◌, ◌/◌, ◌%◌, List, [], ◌∷◌, ◌++◌, nat_lt, if◌then◌else◌, codes}
 use Rattle.std.specs.List.{flat_map}
 use Rattle.std.specs.Fmt.{decimal, signed_decimal}
 use Rattle.column_block.specs.declared.cell.Cell.{Cell}
@@ -24,3 +24,7 @@ cells_text cells = flat_map (λ (c : Cell). codes " " ++ cell_text c) cells
 
 unfoldable pub line : Row → List ℕ
 line row = codes "row " ++ signed_decimal row.handle ++ cells_text row.cells ++ codes "\n"
+
+-- the text begins with this one
+abbrev pub Begins : List ℕ → List ℕ → Type 0
+Begins front text = take (length front) text ≡ front

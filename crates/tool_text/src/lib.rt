@@ -5,3 +5,6 @@ mod row;
 
 pub use column_block::Memory;
 pub use row::print_row;
+
+#[cfg(test)]
+mod tests;
