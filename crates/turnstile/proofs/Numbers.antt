@@ -42,10 +42,6 @@ either_length [] b = omega arith
 either_length (x ∷ xs) [] = omega arith
 either_length (x ∷ xs) (y ∷ ys) = omega (arith, either_length xs ys)
 
-bit_off : (a : Bool) → bit a ≡ 0 → a ≡ false
-bit_off true e = absurd (omega arith)
-bit_off false e = refl
-
 pub either_count : (a b : List Bool) → ((k : ℕ) → bit (get_or a k false) + bit (get_or b k false) ≤ 1) → total bit (either_true a b) ≡ total bit a + total bit b
 either_count [] b once = omega arith
 either_count (x ∷ xs) [] once = omega arith
