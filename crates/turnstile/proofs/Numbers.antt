@@ -1,7 +1,5 @@
 -- Lists that are true at each number of a seat.
-use Rattle.std.proofs.Common.{◌≡◌, ℕ, zero, suc, ◌+◌, ◌-◌, ◌<◌, ◌≤◌, ◌≢◌, ◌⊎◌, ◌||◌, inl, inr, Bool, true, false, eqb, List, [], ◌∷◌, length, get_or, set, get_or-set_other, replicate, sym, refl, ap, ◌∙◌, subst, arith, eq-eqb, ne_eqb}
-use mathlib.Core.Logic.{dite}
-use native.Mathlib.Decide.{ℕ_discrete}
+use Rattle.std.proofs.Common.{◌≡◌, ℕ, zero, suc, ◌+◌, ◌-◌, ◌<◌, ◌≤◌, ◌⊎◌, ◌||◌, inl, inr, Bool, true, false, eqb, List, [], ◌∷◌, length, get_or, set, replicate, sym, refl, ap, ◌∙◌, arith, ne_eqb}
 use Rattle.turnstile.specs.Numbers.{total, bit, first_true, either_true, ones, all_but_first}
 
 pub true-ne-false : true ≡ false → (Z : Type 0) → Z
@@ -43,10 +41,6 @@ pub either_length : (a b : List Bool) → length a ≤ length (either_true a b)
 either_length [] b = omega arith
 either_length (x ∷ xs) [] = omega arith
 either_length (x ∷ xs) (y ∷ ys) = omega (arith, either_length xs ys)
-
-bit_off : (a : Bool) → bit a ≡ 0 → a ≡ false
-bit_off true e = absurd (omega arith)
-bit_off false e = refl
 
 pub either_count : (a b : List Bool) → ((k : ℕ) → bit (get_or a k false) + bit (get_or b k false) ≤ 1) → total bit (either_true a b) ≡ total bit a + total bit b
 either_count [] b once = omega arith

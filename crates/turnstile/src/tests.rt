@@ -67,7 +67,7 @@ fn next(tally: Tally, kept_from: u64) -> Tally
 }
 
 #[test]
-fn the_floor_stays_below_a_pin(rt: HostRuntime) {
+fn two_seats_no_third_and_a_pinned_floor(rt: HostRuntime) {
     let (turn, mut first) = match Turn::new(rt.alloc(), new_tally(3, 7), 2) {
         Ok(made) => made,
         Err(_) => panic!(rt; "memory"),
