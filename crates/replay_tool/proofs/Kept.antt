@@ -22,7 +22,7 @@ head_is x y (zero, lt, is) = is
 head_is x y (suc k, lt, is) = absurd (omega (arith, lt))
 
 pub in_cons : {X : Type 0} (x : X) (xs : List X) (y : X) → Contains (x ∷ xs) y → (x ≡ y) ⊎ Contains xs y
-in_cons x xs y has = elim (Contains-append_cases (x ∷ []) xs y has) [ | inl h ↦ inl (head_is x y h) | inr t ↦ inr t ]
+in_cons x xs y has = elim (Contains-append_cases (x ∷ []) xs y has) [ inl h ↦ inl (head_is x y h) | inr t ↦ inr t ]
 
 pub at_head : {X : Type 0} (x : X) (xs : List X) → Contains (x ∷ xs) x
 at_head x xs = (0, omega arith, refl)
@@ -60,12 +60,12 @@ below_one k e (Some v) others lt rest = (lt, rest)
 
 below_kept : (k : ℤ) (es : List (ℤ × Seen)) → AllByRecursion (λ q. int_cmp k q ≡ Less) (keys_of es) → AllByRecursion (λ q. int_cmp k q ≡ Less) (keys_of (filter_map shown_row es))
 below_kept k [] h = tt
-below_kept k (e ∷ es) h = elim e.1.value as (λ o. AllByRecursion (λ q. int_cmp k q ≡ Less) (keys_of (cons_option (option_map (λ v. (e.0, v.now)) o) (filter_map shown_row es)))) [ | None ↦ below_kept k es h.1 | Some v ↦ (h.0, below_kept k es h.1) ]
+below_kept k (e ∷ es) h = elim e.1.value as (λ o. AllByRecursion (λ q. int_cmp k q ≡ Less) (keys_of (cons_option (option_map (λ v. (e.0, v.now)) o) (filter_map shown_row es)))) [ None ↦ below_kept k es h.1 | Some v ↦ (h.0, below_kept k es h.1) ]
 
 pub rising_kept : (es : List (ℤ × Seen)) → IsStrictlySortedBy int_cmp (keys_of es) → IsStrictlySortedBy int_cmp (keys_of (filter_map shown_row es))
 unfolding IsStrictlySortedBy
 rising_kept [] h = tt
-rising_kept (e ∷ es) h = elim e.1.value as (λ o. IsStrictlySortedBy int_cmp (keys_of (cons_option (option_map (λ v. (e.0, v.now)) o) (filter_map shown_row es)))) [ | None ↦ rising_kept es h.1 | Some v ↦ (below_kept e.0 es h.0, rising_kept es h.1) ]
+rising_kept (e ∷ es) h = elim e.1.value as (λ o. IsStrictlySortedBy int_cmp (keys_of (cons_option (option_map (λ v. (e.0, v.now)) o) (filter_map shown_row es)))) [ None ↦ rising_kept es h.1 | Some v ↦ (below_kept e.0 es h.0, rising_kept es h.1) ]
 
 -- ---- maps
 same_handle : (a q : ℤ) → is_at (int_cmp a) q ≡ true → a ≡ q

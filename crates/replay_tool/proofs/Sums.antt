@@ -15,7 +15,7 @@ use Rattle.replay_tool.specs.Seen.{Knows, Sees, IsLast, IsAbove, IsBackdated}
 pub rise_on : (before : List Commit) (commit : Commit) → Rise before → IsAbove before commit → Rise (before ++ commit ∷ [])
 rise_on before commit rise above =
     all_pairs_push (λ (a b : Commit). a.handle ≡ b.handle → a.ts < b.ts) before commit rise
-        (λ k d within same. above (get_or before k d) (k, within, get_or_default before k (get_or before k d) d within) same)
+    (λ k d within same. above (get_or before k d) (k, within, get_or_default before k (get_or before k d) d within) same)
 
 pub last_is : (before : List Commit) (commit : Commit) → IsAbove before commit → IsLast (before ++ commit ∷ []) commit.handle commit.ts
 last_is before commit above = record {
@@ -32,16 +32,21 @@ last_is before commit above = record {
 -- a commit that the read may see is the newest of its handle
 pub sees_it : (before : List Commit) (ts : ℕ) (commit : Commit) → IsAbove before commit → commit.ts ≤ ts → Sees (before ++ commit ∷ []) ts commit.handle commit.value
 sees_it before ts commit above seen = record {
-  shown = λ bytes is. (commit, record {
-    stands = Contains-push before commit;
-    seen = seen;
-    newest = λ other stands same in_time. (last_is before commit above).greatest other stands same;
-  }, refl, is);
+  shown = λ bytes is. (
+    commit,
+    record {
+      stands = Contains-push before commit;
+      seen = seen;
+      newest = λ other stands same in_time. (last_is before commit above).greatest other stands same;
+    },
+    refl,
+    is,
+  );
   all = λ other newest same. elim (Contains-push_cases before commit other newest.stands) [
     | inl earlier ↦
-      let lt = above other earlier same in
-      let le = newest.newest commit (Contains-push before commit) (sym same) seen in
-      absurd (omega (arith, lt, le))
+        let lt = above other earlier same in
+        let le = newest.newest commit (Contains-push before commit) (sym same) seen in
+        absurd (omega (arith, lt, le))
     | inr is ↦ ap (λ (c : Commit). c.value) (sym is)
   ];
 }
@@ -55,9 +60,9 @@ module _ (before : List Commit) (ts : ℕ) (commit : Commit) (handle : ℤ) (oth
     newest = λ other stands of_handle in_time. elim (Contains-push_cases before commit other stands) [
       | inl earlier ↦ newest.newest other earlier of_handle in_time
       | inr is ↦
-        let late = other_or_late (ap (λ (x : Commit). x.handle) is ∙ of_handle ∙ same) in
-        let its = ap (λ (x : Commit). x.ts) is in
-        absurd (omega (arith, late, its, in_time))
+          let late = other_or_late (ap (λ (x : Commit). x.handle) is ∙ of_handle ∙ same) in
+          let its = ap (λ (x : Commit). x.ts) is in
+          absurd (omega (arith, late, its, in_time))
     ];
   }
 
@@ -66,9 +71,9 @@ module _ (before : List Commit) (ts : ℕ) (commit : Commit) (handle : ℤ) (oth
     stands = elim (Contains-push_cases before commit c newest.stands) [
       | inl earlier ↦ earlier
       | inr is ↦
-        let late = other_or_late (ap (λ (x : Commit). x.handle) is ∙ same) in
-        let its = ap (λ (x : Commit). x.ts) is in
-        absurd (omega (arith, late, its, newest.seen))
+          let late = other_or_late (ap (λ (x : Commit). x.handle) is ∙ same) in
+          let its = ap (λ (x : Commit). x.ts) is in
+          absurd (omega (arith, late, its, newest.seen))
     ];
     seen = newest.seen;
     newest = λ other stands of_handle in_time. newest.newest other (Contains-append_left before (commit ∷ []) other stands) of_handle in_time;
@@ -133,11 +138,13 @@ knows_on before ts commit handle (Some seen) apart known = (last_on before commi
 pub knows_first : (before : List Commit) (ts : ℕ) (commit : Commit) (value : Option (List ℕ)) → Knows before ts commit.handle None → (commit.ts ≤ ts → value ≡ commit.value) → (ts < commit.ts → value ≡ None)
     → IsAbove before commit × (IsLast (before ++ commit ∷ []) commit.handle commit.ts × Sees (before ++ commit ∷ []) ts commit.handle value)
 knows_first before ts commit value none seen late =
-    let above : IsAbove before commit = λ other stands same. absurd (none other stands same) in
-    (above, elim (cases_lt ts commit.ts) [
-      | inl lt ↦ rw (late lt) (knows_late before ts commit None above lt (sees_none before ts commit.handle none))
-      | inr le ↦ rw (seen le) (knows_seen before ts commit above le)
-    ])
+    let above : IsAbove before commit = λ other stands same. absurd (none other stands same) in (
+      above,
+      elim (cases_lt ts commit.ts) [
+        | inl lt ↦ rw (late lt) (knows_late before ts commit None above lt (sees_none before ts commit.handle none))
+        | inr le ↦ rw (seen le) (knows_seen before ts commit above le)
+      ],
+    )
 
 -- a timestamp above the last one is above all others
 pub above_last : (before : List Commit) (commit : Commit) (last : ℕ) → IsLast before commit.handle last → last < commit.ts → IsAbove before commit

@@ -14,7 +14,12 @@ use std::alloc::Global;
 
 /// The commits of a first log's entries, oldest first. `Unbuilt` for others.
 #[tactic(auto, unfolding(crate::specs::Logs::first_commits))]
-pub fn first_commits<'a>(alloc: Global, table: i64, schema: &Schema, entries: &'a [Entry]) -> Result<Vec<Commit<'a>>, ShowError>
+pub fn first_commits<'a>(
+    alloc: Global,
+    table: i64,
+    schema: &Schema,
+    entries: &'a [Entry],
+) -> Result<Vec<Commit<'a>>, ShowError>
     ensures found { IfOk result (λ commits. first_commits table schema.now entries.now ≡ Some (views commits.items)) }
     ensures other { IsErrOf result ShowError.Unbuilt → first_commits table schema.now entries.now ≡ None }
 {
@@ -24,7 +29,14 @@ pub fn first_commits<'a>(alloc: Global, table: i64, schema: &Schema, entries: &'
     let Some(range) = opened(&first.body) else {
         return Err(ShowError::Unbuilt);
     };
-    commits_from(alloc, Place { table, range }, schema, first.region, first.index, writes)
+    commits_from(
+        alloc,
+        Place { table, range },
+        schema,
+        first.region,
+        first.index,
+        writes,
+    )
 }
 
 fn commits_from<'a>(

@@ -11,6 +11,7 @@ mod status;
 mod value;
 mod words;
 
-
-
 pub use run::replay;
+
+#[cfg(test)]
+mod tests;

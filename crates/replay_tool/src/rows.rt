@@ -48,7 +48,11 @@ pub fn rows_of<'a>(
 }
 
 // One more commit.
-fn note<'a>(handles: &mut BTreeMap<Handle, Seen<'a>>, ts: Ts, commit: &Commit<'a>) -> Result<(), ShowError>
+fn note<'a>(
+    handles: &mut BTreeMap<Handle, Seen<'a>>,
+    ts: Ts,
+    commit: &Commit<'a>,
+) -> Result<(), ShowError>
     ensures noted { OnOk result ((before : List Stored) → Sums before ts handles.old → Sums (before ++ view commit.now ∷ []) ts handles.new) }
     ensures backdated { IsErrOf result ShowError.Unbuilt → (before : List Stored) → Sums before ts handles.old → IsBackdated before (view commit.now) }
 {
@@ -97,7 +101,10 @@ fn value_in_time<'a>(ts: Ts, commit: &Commit<'a>) -> Option<&'a [u8]>
 }
 
 // The handles of which a value is seen.
-fn list_rows<'a>(alloc: Global, handles: &BTreeMap<Handle, Seen<'a>>) -> Result<Vec<Shown<'a>>, ShowError>
+fn list_rows<'a>(
+    alloc: Global,
+    handles: &BTreeMap<Handle, Seen<'a>>,
+) -> Result<Vec<Shown<'a>>, ShowError>
     ensures rows { IfOk result (λ rows. map row_view rows.items ≡ filter_map shown_row handles.now.entries) }
     ensures memory { IsErrOf result ShowError.Unbuilt → ⊥ }
     ensures ordered { IsOrdered int_cmp handles.now }

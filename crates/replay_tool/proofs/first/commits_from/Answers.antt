@@ -15,8 +15,8 @@ pub returns-in-Err-clause-other : goal.returns-in-Err-clause-other
 returns-in-Err-clause-other c =
     let total = commits_from c.args.place c.args.schema.now c.args.region (c.args.opened_at + 1) c.args.writes.now in
     λ e.
-        let none = its_turn c.args.place c.args.schema.now c.args.region (c.args.opened_at + 1) c.loop-entry.entry-index c.loop-entry.index c.entry-item.result c.in-Some.ops.now None c.loop-entry.invariant.index c.in-Some.ensures (c.in-Err.ensures.other (error_of c.in-Err.error _ e)) in
-        stops (in_turn c.args.place c.args.schema.now c.args.region (c.args.opened_at + 1)) (views c.loop-entry.commits.items) c.loop-entry.entry-index c.args.writes.now c.entry-item.result [] total c.loop-entry-test.true c.entry-item.is none (c.loop-entry.invariant.so_far ∙ sym (nothing_before total))
+    let none = its_turn c.args.place c.args.schema.now c.args.region (c.args.opened_at + 1) c.loop-entry.entry-index c.loop-entry.index c.entry-item.result c.in-Some.ops.now None c.loop-entry.invariant.index c.in-Some.ensures (c.in-Err.ensures.other (error_of c.in-Err.error _ e)) in
+    stops (in_turn c.args.place c.args.schema.now c.args.region (c.args.opened_at + 1)) (views c.loop-entry.commits.items) c.loop-entry.entry-index c.args.writes.now c.entry-item.result [] total c.loop-entry-test.true c.entry-item.is none (c.loop-entry.invariant.so_far ∙ sym (nothing_before total))
 
 pub loop-entry-preserved : goal.loop-entry-preserved
 loop-entry-preserved c =

@@ -22,4 +22,4 @@ returns-clause-rows c =
     let all : views (take c.loop-commit.commit-index c.args.commits.now) ≡ views c.args.commits.now = ap views (take_all c.loop-commit.commit-index c.args.commits.now c.loop-commit-test.false) in
     let sums = rw all at c.loop-commit.invariant in
     IfOk-weaker c.list_rows.result (λ rows. map row_view rows.items ≡ filter_map shown_row c.loop-commit.handles.entries) (λ rows. Rise (views c.args.commits.now) × AreRows (views c.args.commits.now) c.args.ts (map row_view rows.items))
-        (λ rows is. (sums.rise, subst (AreRows (views c.args.commits.now) c.args.ts) (sym is) (are_rows (views c.args.commits.now) c.args.ts c.loop-commit.handles sums c.list_rows.ensures.ordered))) c.list_rows.ensures.rows
+    (λ rows is. (sums.rise, subst (AreRows (views c.args.commits.now) c.args.ts) (sym is) (are_rows (views c.args.commits.now) c.args.ts c.loop-commit.handles sums c.list_rows.ensures.ordered))) c.list_rows.ensures.rows
