@@ -1,5 +1,5 @@
 -- The parts of a row against the row that they are.
-use Rattle.std.proofs.Common.{◌≡◌, ◌≢◌, ℕ, zero, suc, ◌+◌, ◌-◌, ◌*◌, ◌<◌, ◌≤◌, List, [], ◌∷◌, ◌++◌, length, map, take, drop, get_or, slice_get, Bool, true, false, nat_lt, nat_le, nat_eq, ◌&&◌, ◌||◌, if◌then◌else◌, cond, Option, Some, None, Result, Err, refl, sym, ap, ◌∙◌, subst, arith, eq-eqb, length-append}
+use Rattle.std.proofs.Common.{◌≡◌, ◌≢◌, ℕ, zero, suc, ◌+◌, ◌-◌, ◌*◌, ◌<◌, ◌≤◌, List, [], ◌∷◌, ◌++◌, length, map, take, drop, get_or, slice_get, Bool, true, false, nat_lt, nat_le, nat_eq, ◌&&◌, if◌then◌else◌, Option, Some, None, Err, refl, sym, ap, ◌∙◌, subst, arith, eq-eqb, length-append}
 use Rattle.std.specs.Prelude.{zip}
 use Rattle.std.specs.List.{list_any}
 use Rattle.std.specs.Map.{lookup}
@@ -7,9 +7,8 @@ use Rattle.std.proofs.lemmas.Bool.{lt-ltb, leb-true, ne_eqb, or_right}
 use Rattle.std.proofs.Math.ListN.{get_or-append}
 use Rattle.std.proofs.Math.Seq.{get_or-append_right}
 use Rattle.std.proofs.lemmas.Option.{slice_get-get_or}
-use Rattle.row_codec.specs.declared.row.RowError.{RowError}
 use Rattle.row_codec.specs.declared.row.RowError.TheVariants.{Short}
-use Rattle.row_codec.specs.Numbers.{bad_end_after, first_bad_end}
+use Rattle.row_codec.specs.Numbers.{bad_end_after}
 use Rattle.column_block.specs.Rising.{first_fall}
 use Rattle.row_codec.specs.Rows.{Row, pieces, start_of, row_of, row_behind_head, ids_of, field_among, field_of}
 use Rattle.column_block.proofs.Rising.{rising}

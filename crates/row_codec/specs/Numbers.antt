@@ -1,6 +1,6 @@
 -- Packed numbers, and the order that they stand in.
-use Rattle.std.specs.Prelude.{ℕ, zero, suc, ◌+◌, Bool, ◌&&◌, ◌||◌, ◌==◌, nat_lt, nat_le, if◌then◌else◌, ℤ, Option, Some, None, List, [], ◌∷◌, length, drop}
-use Rattle.byteorder.specs.Endian.{little_number, twos_complement}
+use Rattle.std.specs.Prelude.{ℕ, zero, suc, ◌+◌, ◌&&◌, nat_le, if◌then◌else◌, Option, Some, None, List, [], ◌∷◌, drop}
+use Rattle.byteorder.specs.Endian.{little_number}
 use Rattle.row_codec.specs.declared.numbers.Width.{Width}
 use Rattle.row_codec.specs.declared.numbers.Width.TheVariants.{One, Two, Four}
 

@@ -36,15 +36,16 @@ pub record AreParts (ids nulls ends values : List ℕ) : Type 0 where
   pub few : length ids < 2 ^ 16
   pub few_nulls : length nulls < 2 ^ 16
 
+-- a row, or its first refusal: a fall among the ids, of which so many have a value, one among the null ids, a bad end offset
+abbrev pub unless_refused : ℕ → Option ℕ → Option ℕ → Option ℕ → Row → Result Row RowError
+unless_refused count (Some at) null_fall bad_end row = Err (Order at)
+unless_refused count None (Some at) bad_end row = Err (Order (count + at))
+unless_refused count None None (Some at) row = Err (Offset at)
+unless_refused count None None None row = Ok row
+
 -- the row of these parts, if the ids rise in each list, and the end offsets don't fall and don't pass the values
 unfoldable pub checked_row : List ℕ → List ℕ → List ℕ → List ℕ → Result Row RowError
-checked_row ids nulls ends values = elim (first_fall ids) [
-  | Some at ↦ Err (Order at)
-  | None ↦ elim (first_fall nulls) [
-    | Some at ↦ Err (Order (length ids + at))
-    | None ↦ elim (first_bad_end (length values) ends) [ Some at ↦ Err (Offset at) | None ↦ Ok (row_of ids nulls ends values) ]
-  ]
-]
+checked_row ids nulls ends values = unless_refused (length ids) (first_fall ids) (first_fall nulls) (first_bad_end (length values) ends) (row_of ids nulls ends values)
 
 -- the row of n values and m null columns, behind the six bytes of its head; an id and an end offset have so many bytes
 unfoldable pub row_behind_head : ℕ → ℕ → ℕ → ℕ → List ℕ → Result Row RowError

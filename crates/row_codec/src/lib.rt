@@ -6,10 +6,12 @@ mod numbers;
 mod row;
 mod value;
 mod view;
+mod write;
 
 pub use row::{Field, RowError};
 pub use value::{int, uint};
 pub use view::RowView;
+pub use write::{Memory, RowWriter, reads_back};
 
 #[cfg(test)]
 mod tests;

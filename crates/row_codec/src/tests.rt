@@ -1,5 +1,5 @@
 // Rows of both forms, against bytes that were written out by hand.
-use crate::{Field, RowError, RowView, int, uint};
+use crate::{Field, RowError, RowView, RowWriter, int, uint};
 use std::test::Fail;
 
 const SMALL: [u8; 15] = [128, 0, 2, 0, 0, 0, 1, 2, 1, 0, 3, 0, 5, 0x61, 0x62];
@@ -57,4 +57,28 @@ fn numbers_of_each_width(rt: HostRuntime) {
     assert_eq!(rt; int(&[0, 0x80]), Some(-32768));
     assert_eq!(rt; uint(&[0xff]), Some(255));
     assert_eq!(rt; int(&[1, 2, 3]), None);
+}
+
+#[test]
+fn the_small_form_and_the_big_form(rt: HostRuntime) -> Result<(), Fail> {
+    let mut row = RowWriter::new(rt.alloc());
+    row.field(1, &[5])?;
+    row.field(2, b"ab")?;
+    let mut bytes = Vec::new(rt.alloc());
+    row.finish(&mut bytes)?;
+    assert_eq!(rt; bytes.as_slice(), SMALL.as_slice());
+
+    let mut row = RowWriter::new(rt.alloc());
+    row.field(1, &[1])?;
+    row.null(2)?;
+    let mut bytes = Vec::new(rt.alloc());
+    row.finish(&mut bytes)?;
+    assert_eq!(rt; bytes.as_slice(), WITH_NULL.as_slice());
+
+    let mut row = RowWriter::new(rt.alloc());
+    row.field(300, &[7])?;
+    let mut bytes = Vec::new(rt.alloc());
+    row.finish(&mut bytes)?;
+    assert_eq!(rt; bytes.as_slice(), BIG.as_slice());
+    Ok(())
 }

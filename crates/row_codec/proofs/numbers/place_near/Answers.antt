@@ -1,4 +1,4 @@
-use Rattle.std.proofs.Common.{arith, sym, ap, ◌∙◌, get_or, ◌<◌, subst, ℕ}
+use Rattle.std.proofs.Common.{arith, ap, get_or}
 use Rattle.row_codec.proofs.Lists.{before_all, between}
 use Rattle.row_codec.proofs.numbers.place_near.Goals as goal
 

@@ -1,4 +1,4 @@
-use Rattle.std.proofs.Common.{◌≤◌, take, drop, ◌-◌, length, get_or, Some, ap, ◌∙◌, arith}
+use Rattle.std.proofs.Common.{length, arith}
 use Rattle.row_codec.proofs.Views.{piece_fits, slice_get-pieces}
 use Rattle.row_codec.proofs.view.value_at.Goals as goal
 
