@@ -56,6 +56,7 @@ fn a_directory_is_a_disk_for_one(rt: HostRuntime) {
     assert_eq!(rt; given.files.as_slice(), [3u32].as_slice());
     assert_eq!(rt; given.bytes.as_slice(), b"xyz".as_slice());
     assert_eq!(rt; given.gripped.as_slice(), b"ax".as_slice());
+    assert!(rt; fs::metadata(&rt, "disk_of_the_test/f0000000003").is_ok());
     assert!(rt; matches!(given.other, Err(DiskFault::Failed)));
     assert_eq!(rt; given.other_faults, 1);
     assert!(rt; fs::remove_dir_all(&rt, "disk_of_the_test").is_ok());

@@ -200,7 +200,11 @@ impl Disk for MemDisk {
         }
     }
 
-    fn reader(&self) -> MemReader {
+    /// It fails only at the calls that are listed for readers.
+    fn reader(&self) -> MemReader
+        ensures count { result.faults ≡ 0 }
+        ensures spared { listed self.now.reader_failing ≡ [] → listed result.failing ≡ [] }
+    {
         MemReader {
             failing: shared(&self.reader_failing),
             calls: 0,

@@ -28,8 +28,10 @@ enum Fate {
     Whole,
     /// Some of its bytes came, from the first on, and then maybe some others.
     Torn,
-    /// It had its whole effect, and a file that it was to create isn't there.
+    /// The file's name didn't come, or went.
     Absent,
+    /// The file's name came, and none of the bytes.
+    Empty,
 }
 
 // What a torn write leaves in the place of bytes that didn't come.
@@ -46,11 +48,12 @@ impl Fates {
     }
 
     fn fate(&mut self) -> Fate {
-        match self.draw() % 4 {
+        match self.draw() % 5 {
             0 => Fate::Lost,
             1 => Fate::Whole,
             2 => Fate::Torn,
-            _ => Fate::Absent,
+            3 => Fate::Absent,
+            _ => Fate::Empty,
         }
     }
 
@@ -117,6 +120,7 @@ fn create_outcome(
             image.remove(&file);
             Ok(())
         }
+        Fate::Empty => insert(alloc, image, file, Vec::new(alloc)),
     }
 }
 
@@ -139,7 +143,7 @@ fn write_outcome(
     ensures { OnOk result (Torn file at (length bytes.now) (image_of image.old) (image_of image.new)) }
 {
     match fates.fate() {
-        Fate::Lost => Ok(()),
+        Fate::Lost | Fate::Empty => Ok(()),
         Fate::Whole => change_file(alloc, image, file, at, bytes),
         _ => {
             let torn = fates.torn(alloc, bytes)?;

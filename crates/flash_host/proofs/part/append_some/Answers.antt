@@ -1,4 +1,4 @@
-use Rattle.std.proofs.Common.{rules, ◌≡◌, ◌+◌, ◌≤◌, ◌∙◌, ℕ, List, ◌++◌, length, take, arith, length-take}
+use Rattle.std.proofs.Common.{rules, ◌≡◌, ◌+◌, ◌≤◌, ◌∙◌, length, take, arith, length-take}
 use Rattle.flash_host.proofs.Tails.{tail_read, resized_front}
 use Rattle.flash_host.proofs.part.append_some.Goals as goal
 
