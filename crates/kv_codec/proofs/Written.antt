@@ -51,7 +51,7 @@ high_fits n (suc k) ne lt =
     let front : n / 128 < 2 * 128 ^ k = omega (arith, pow-succ' 128 k) in
     rw e front
 
-number_more : (n more : ℕ) → more ≢ 0 → 128 ≤ n → number more n ≡ (128 + n % 128) ∷ number (more - 1) (n / 128)
+pub number_more : (n more : ℕ) → more ≢ 0 → 128 ≤ n → number more n ≡ (128 + n % 128) ∷ number (more - 1) (n / 128)
 unfolding number
 number_more n zero ne high = absurd (ne refl)
 number_more n (suc k) ne high =

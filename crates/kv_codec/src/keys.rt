@@ -5,9 +5,13 @@ ghost use Rattle.kv_codec.specs.Keys.{last_group, text_at, flipped, unflipped, r
 /// What is wrong with a key, and where.
 #[derive(Clone, Copy, Debug, PartialEq, Eq)]
 pub enum KeyError {
+    /// The key ends inside a group or inside its timestamp: its length.
     Short { at: u64 },
+    /// The marker at this place is below 0xF7.
     Marker { at: u64 },
+    /// The pad byte at this place isn't zero; it is the first such.
     Pad { at: u64 },
+    /// Bytes follow the last group: the first of them.
     Long { at: u64 },
 }
 
@@ -18,7 +22,7 @@ const FULL: u8 = 0xFF;
 const EMPTY: u8 = 0xF7;
 
 // A number with the sign bit flipped.
-fn flip(number: i64) -> u64
+pub fn flip(number: i64) -> u64
     ensures { result ≡ flipped number }
 {
     if number < 0 {
