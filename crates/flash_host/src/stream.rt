@@ -1,0 +1,71 @@
+// Readers and writers of std as sources and sinks.
+ghost use Rattle.std.specs.Prelude.{◌≡◌, None};
+
+use flash_io::{Failed, Sink, Source};
+use std::io::{Read, Write};
+
+/// A reader as a source. It tells nothing of what is left.
+#[derive(Drop)]
+pub struct HostSource<F: Read> {
+    file: Option<F>,
+    faults: u64,
+}
+
+impl<F: Read> HostSource<F> {
+    /// A source over an open file, or over one that couldn't be opened (None), whose first read
+    /// fails.
+    pub fn new(file: Option<F>) -> HostSource<F>
+        ensures { ⟦<HostSource<F> as Source>⟧.fault_count result ≡ 0 }
+    {
+        HostSource { file, faults: 0 }
+    }
+}
+
+impl<F: Read> Source for HostSource<F> {
+    ghost left = { λ _. None };
+
+    ghost fault_count = { λ source. source.faults };
+
+    fn read(&mut self, into: &mut [u8]) -> Result<usize, Failed> {
+        if let Some(file) = &mut self.file
+            && let Ok(count) = file.read(into)
+        {
+            return Ok(count);
+        }
+        self.faults = self.faults.saturating_add(1);
+        Err(Failed)
+    }
+}
+
+/// A writer as a sink. It tells nothing of what it holds. A write that takes nothing of a piece
+/// that isn't empty has failed.
+#[derive(Drop)]
+pub struct HostSink<W: Write> {
+    writer: W,
+    faults: u64,
+}
+
+impl<W: Write> HostSink<W> {
+    /// A sink over a writer.
+    pub fn new(writer: W) -> HostSink<W>
+        ensures { ⟦<HostSink<W> as Sink>⟧.fault_count result ≡ 0 }
+    {
+        HostSink { writer, faults: 0 }
+    }
+}
+
+impl<W: Write> Sink for HostSink<W> {
+    ghost contents = { λ _. None };
+
+    ghost fault_count = { λ sink. sink.faults };
+
+    fn write(&mut self, from: &[u8]) -> Result<usize, Failed> {
+        if let Ok(count) = self.writer.write(from)
+            && (count > 0 || from.is_empty())
+        {
+            return Ok(count);
+        }
+        self.faults = self.faults.saturating_add(1);
+        Err(Failed)
+    }
+}

@@ -1,0 +1,5 @@
+pub mod Faults
+pub mod Streams
+pub mod DiskFaults
+pub mod Image
+pub mod Crash

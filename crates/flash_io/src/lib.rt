@@ -1,0 +1,21 @@
+//! The outside as the store sees it: sources, sinks and disks, whose failures are counted, and what
+//! a crash may leave of a disk.
+#![tactic(auto)]
+
+mod disk;
+mod fault;
+mod pause;
+mod read;
+mod reader;
+mod stream;
+mod words;
+mod write;
+
+pub use disk::{Disk, FileId};
+pub use fault::DiskFault;
+pub use pause::{Free, Pause, Point};
+pub use read::{IntoError, read_to_limit};
+pub use reader::{Gripped, Reader};
+pub use stream::{Failed, Sink, Source};
+pub use words::{Word, WordList};
+pub use write::write_all;

@@ -1,0 +1,4 @@
+pub mod Files
+pub mod History
+pub mod Laws
+pub mod Chosen

@@ -1,0 +1,9 @@
+pub mod Numbers
+pub mod Frames
+pub mod Gather
+pub mod Turns
+pub mod Sums
+pub mod Kept
+pub mod Fronts
+pub mod Shows
+pub mod Runs
