@@ -38,7 +38,7 @@ some_byte : (more n : ℕ) → 1 ≤ length (S.number more n)
 unfolding S.number
 some_byte zero n = omega arith
 some_byte (suc more) n =
-    let by_size : (b : Bool) → 1 ≤ length (cond b (n ∷ []) ((128 + n % 128) ∷ S.number more (n / 128))) = elim [ | true ↦ omega arith | false ↦ omega arith ] in
+    let by_size : (b : Bool) → 1 ≤ length (cond b (n ∷ []) ((128 + n % 128) ∷ S.number more (n / 128))) = elim [ true ↦ omega arith | false ↦ omega arith ] in
     by_size (ltb n 128)
 
 number_first : (n : ℕ) (rest : List ℕ) → n < 2 ^ 64 → (len : ℕ) → ttl_at len (S.number 9 n ++ rest) ≡ Ok n
@@ -56,5 +56,5 @@ lock_again l rest fits =
     let two = append_assoc l.primary (start ++ ttl) rest in
     let three = append_assoc start ttl rest in
     let parts : S.lock l ++ rest ≡ S.lock_kind_byte l.kind ∷ (size ++ (l.primary ++ (start ++ (ttl ++ rest)))) =
-      ap (λ (xs : List ℕ). S.lock_kind_byte l.kind ∷ xs) (one ∙ ap (λ (xs : List ℕ). size ++ xs) (two ∙ ap (λ (xs : List ℕ). l.primary ++ xs) three)) in
+    ap (λ (xs : List ℕ). S.lock_kind_byte l.kind ∷ xs) (one ∙ ap (λ (xs : List ℕ). size ++ xs) (two ∙ ap (λ (xs : List ℕ). l.primary ++ xs) three)) in
     ap lock_at parts ∙ rw (kind_again l.kind (size ++ (l.primary ++ (start ++ (ttl ++ rest)))), text_again _ l.primary (start ++ (ttl ++ rest)) fits.primary, number_again 9 _ l.start (ttl ++ rest) (omega (arith, fits.start)), number_first l.ttl rest fits.ttl _) refl

@@ -39,9 +39,9 @@ byte_decides n m p xs ys some lt high others =
     elim (cases_lt a b) [
       | inl less ↦ lower (a % 256) (b % 256) xs ys (omega (arith, less, quotients))
       | inr more ↦
-        let eq : a ≡ b = omega (arith, le, more) in
-        let low : a % 256 ≡ b % 256 = ap (λ k. k % 256) eq in
-        rw low (same (b % 256) xs ys (others eq))
+          let eq : a ≡ b = omega (arith, le, more) in
+          let low : a % 256 ≡ b % 256 = ap (λ k. k % 256) eq in
+          rw low (same (b % 256) xs ys (others eq))
     ]
 
 -- the bytes of a number from one of them on, as they stand in a key
@@ -106,10 +106,10 @@ numbers_order t n m lt fits =
     ap (λ (xs : List ℕ). slice_cmp nat_cmp xs (key_by_places t (to_be_bytes w64 m))) (key_parts t n) ∙ ap (slice_cmp nat_cmp (front_of t ++ from0 n)) (key_parts t m) ∙ same_front (front_of t) (from0 n) (from0 m) (order0 n m lt top)
 
 flipped_order : (a b : ℤ) → FitsSigned w64 a → FitsSigned w64 b → a <ℤ b → flipped a < flipped b
-flipped_order (pos a) (pos b) fa fb lt = elim (cases_lt a b) [ | inl less ↦ omega (arith, less) | inr more ↦ absurd (rw (le-ltb _ _ more) at lt.lt) ]
+flipped_order (pos a) (pos b) fa fb lt = elim (cases_lt a b) [ inl less ↦ omega (arith, less) | inr more ↦ absurd (rw (le-ltb _ _ more) at lt.lt) ]
 flipped_order (pos a) (negsuc b) fa fb lt = absurd lt.lt
 flipped_order (negsuc a) (pos b) fa fb lt = omega (arith, fa.sfits)
-flipped_order (negsuc a) (negsuc b) fa fb lt = elim (cases_lt b a) [ | inl less ↦ omega (arith, less, fa.sfits) | inr more ↦ absurd (rw (le-ltb _ _ more) at lt.lt) ]
+flipped_order (negsuc a) (negsuc b) fa fb lt = elim (cases_lt b a) [ inl less ↦ omega (arith, less, fa.sfits) | inr more ↦ absurd (rw (le-ltb _ _ more) at lt.lt) ]
 
 pub keys_order : (table a b : ℤ) → FitsSigned w64 a → FitsSigned w64 b → a <ℤ b → slice_cmp nat_cmp (S.key table a) (S.key table b) ≡ Less
 keys_order table a b fa fb lt =

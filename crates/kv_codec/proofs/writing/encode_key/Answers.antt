@@ -14,5 +14,5 @@ returns-clause-ok c =
     let t = c.to_be_bytes.ensures ∙ ap (to_be_bytes w64) (simp to_z-of_z at c.flip.ensures) in
     let h = c.to_be_bytes-2.ensures ∙ ap (to_be_bytes w64) (simp to_z-of_z at c.flip-2.ensures) in
     let key : c.key_bytes-key.result ≡ spelling.key c.args.table c.args.handle =
-      c.key_bytes-key.ensures ∙ ap (λ (xs : List ℕ). key_by_places xs c.to_be_bytes-2.result) t ∙ ap (key_by_places (to_be_bytes w64 (flipped c.args.table))) h ∙ by_places c.args.table c.args.handle in
+    c.key_bytes-key.ensures ∙ ap (λ (xs : List ℕ). key_by_places xs c.to_be_bytes-2.result) t ∙ ap (key_by_places (to_be_bytes w64 (flipped c.args.table))) h ∙ by_places c.args.table c.args.handle in
     on_ok_weaker c.append.result (λ e. e ∙ ap (λ (xs : List ℕ). c.args.into.now.items ++ xs) key) c.append.ensures.ok
