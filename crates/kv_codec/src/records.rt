@@ -52,7 +52,9 @@ pub struct WriteRec<'a> {
     pub short: Option<&'a [u8]>,
 }
 
-/// Reads a write record. Bytes behind it are passed over.
+/// Reads a write record as TiKV writes it: a kind byte, the start timestamp in LEB128, and behind a
+/// `v` one byte of length and a short value. Bytes behind it are passed over, and so are all behind
+/// the start where the first isn't `v`. Faults are looked for from left to right.
 #[tactic(auto, unfolding(crate::specs::Records::write_at))]
 pub fn read_write(value: &[u8]) -> Result<WriteRec<'_>, RecordError>
     ensures { seen view result ≡ write_at value.now }
@@ -125,8 +127,10 @@ fn sized_of(len: u64, bytes: &[u8]) -> Result<Option<&[u8]>, RecordError>
     Ok(Some(&rest[..size]))
 }
 
-/// Reads a lock record. Bytes behind the time to live are passed over; it is 0 where the record
-/// ends before it.
+/// Reads a lock record as TiKV writes it: a kind byte, the primary's length in the zigzag form of
+/// LEB128, the primary, the start timestamp and the time to live in LEB128. The time to live is 0
+/// where the record ends before it, and bytes behind it are passed over. Faults are looked for from
+/// left to right.
 #[tactic(auto, unfolding(crate::specs::Records::lock_at))]
 pub fn read_lock(value: &[u8]) -> Result<LockRec<'_>, RecordError>
     ensures { seen lock_view result ≡ lock_at value.now }
