@@ -22,11 +22,11 @@ number_again (suc more) at n rest lt =
     elim (cases_lt n 128) [
       | inl low ↦ let e : ltb n 128 ≡ true = lt-ltb _ _ low in rw (e, e) refl
       | inr high ↦
-        let e : ltb n 128 ≡ false = le-ltb _ _ high in
-        let f : ltb (128 + n % 128) 128 ≡ false = le-ltb _ _ (omega arith) in
-        let front : n / 128 < 2 * 128 ^ more = omega (arith, pow-succ' 128 more) in
-        let sum : 128 + n % 128 - 128 + 128 * (n / 128) ≡ n = omega arith in
-        rw (e, f, number_again more (at + 1) (n / 128) rest front) (ap (λ m. Ok (m, rest)) sum)
+          let e : ltb n 128 ≡ false = le-ltb _ _ high in
+          let f : ltb (128 + n % 128) 128 ≡ false = le-ltb _ _ (omega arith) in
+          let front : n / 128 < 2 * 128 ^ more = omega (arith, pow-succ' 128 more) in
+          let sum : 128 + n % 128 - 128 + 128 * (n / 128) ≡ n = omega arith in
+          rw (e, f, number_again more (at + 1) (n / 128) rest front) (ap (λ m. Ok (m, rest)) sum)
     ]
 
 short_again : (len : ℕ) (value : Option (List ℕ)) (rest : List ℕ) → MayFollow value rest → short_at len (short value ++ rest) ≡ Ok value
@@ -51,7 +51,7 @@ high_fits n (suc k) ne lt =
     let front : n / 128 < 2 * 128 ^ k = omega (arith, pow-succ' 128 k) in
     rw e front
 
-number_more : (n more : ℕ) → more ≢ 0 → 128 ≤ n → number more n ≡ (128 + n % 128) ∷ number (more - 1) (n / 128)
+pub number_more : (n more : ℕ) → more ≢ 0 → 128 ≤ n → number more n ≡ (128 + n % 128) ∷ number (more - 1) (n / 128)
 unfolding number
 number_more n zero ne high = absurd (ne refl)
 number_more n (suc k) ne high =

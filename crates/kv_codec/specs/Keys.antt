@@ -69,3 +69,10 @@ unmarked bytes = bytes
 
 unfoldable pub handle_in : ℤ → List ℕ → Option ℤ
 handle_in table key = if (length key == 27) && (slice_index key 26 == 250) then handle_of table (take 19 (unmarked key)) else None
+
+-- a record key, from the bytes of the table and of the handle
+abbrev pub key_by_places : List ℕ → List ℕ → List ℕ
+key_by_places t h =
+    116 ∷ slice_index t 0 ∷ slice_index t 1 ∷ slice_index t 2 ∷ slice_index t 3 ∷ slice_index t 4 ∷ slice_index t 5 ∷ slice_index t 6 ∷ 255
+    ∷ slice_index t 7 ∷ 95 ∷ 114 ∷ slice_index h 0 ∷ slice_index h 1 ∷ slice_index h 2 ∷ slice_index h 3 ∷ slice_index h 4 ∷ 255
+    ∷ slice_index h 5 ∷ slice_index h 6 ∷ slice_index h 7 ∷ 0 ∷ 0 ∷ 0 ∷ 0 ∷ 0 ∷ 250 ∷ []

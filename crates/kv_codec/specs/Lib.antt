@@ -1,4 +1,6 @@
 pub mod Keys
 pub mod Records
 pub mod Views
+pub mod Appending
 pub mod Spelling
+pub mod Laws

@@ -1,7 +1,9 @@
--- Records of the write family.
-use Rattle.std.specs.Prelude.{ℕ, zero, suc, ◌+◌, ◌-◌, ◌*◌, List, [], ◌∷◌, length, take, nat_lt, ◌==◌, if◌then◌else◌, Option, Some, None, Result, Ok, Err}
+-- Records of the write family and of the lock family.
+use Rattle.std.specs.Prelude.{ℕ, zero, suc, ◌+◌, ◌-◌, ◌*◌, List, [], ◌∷◌, ◌/◌, ◌%◌, length, take, drop, nat_lt, ◌==◌, if◌then◌else◌, Option, Some, None, Result, Ok, Err}
 use Rattle.kv_codec.specs.declared.records.RecordError.{RecordError}
 use Rattle.kv_codec.specs.declared.records.RecordError.TheVariants.{Short, Kind, Number}
+use Rattle.kv_codec.specs.declared.records.LockKind.{LockKind}
+use Rattle.kv_codec.specs.declared.records.LockKind.TheVariants.{Put as PutLock, Delete as DeleteLock, Lock as ReadLock, Pessimistic}
 use Rattle.kv_codec.specs.declared.records.WriteKind.{WriteKind}
 use Rattle.kv_codec.specs.declared.records.WriteKind.TheVariants.{Put, Delete, Lock, Rollback}
 use Rattle.flash_list.specs.Steps.{◌>>=◌}
@@ -42,3 +44,41 @@ write_at bytes = do
   start ← number_at 9 1 kind.1
   short ← short_at (length bytes) start.1
   Ok (record { kind = kind.0; start = start.0; short = short })
+
+-- ---- records of the lock family
+
+-- a lock record without where it lies in memory
+pub record LockRecord : Type 0 where
+  pub kind : LockKind
+  pub primary : List ℕ
+  pub start : ℕ
+  pub ttl : ℕ
+
+unfoldable pub lock_kind_at : List ℕ → Result (LockKind × List ℕ) RecordError
+lock_kind_at [] = Err (Short 0)
+lock_kind_at (b ∷ rest) =
+    if b == 80 then Ok (PutLock, rest) else if b == 68 then Ok (DeleteLock, rest)
+    else if b == 76 then Ok (ReadLock, rest) else if b == 83 then Ok (Pessimistic, rest) else Err (Kind b)
+
+-- a number in a record of this length, at the place where these bytes begin
+abbrev pub number_in : ℕ → List ℕ → Result (ℕ × List ℕ) RecordError
+number_in len bytes = number_at 9 (len - length bytes) bytes
+
+-- a text with its length before it, in the zigzag form: twice a length, where an odd number is a negative one
+unfoldable pub text_at : ℕ → List ℕ → Result (List ℕ × List ℕ) RecordError
+text_at len bytes = do
+  size ← number_in len bytes
+  if size.0 % 2 == 1 then Err (Number (len - length bytes)) else (if nat_lt (length size.1) (size.0 / 2) then Err (Short len) else Ok (take (size.0 / 2) size.1, drop (size.0 / 2) size.1))
+
+-- 0 where the record has ended
+unfoldable pub ttl_at : ℕ → List ℕ → Result ℕ RecordError
+ttl_at len [] = Ok 0
+ttl_at len (b ∷ rest) = number_in len (b ∷ rest) >>= λ ttl. Ok ttl.0
+
+unfoldable pub lock_at : List ℕ → Result LockRecord RecordError
+lock_at bytes = do
+  kind ← lock_kind_at bytes
+  primary ← text_at (length bytes) kind.1
+  start ← number_in (length bytes) primary.1
+  ttl ← ttl_at (length bytes) start.1
+  Ok (record { kind = kind.0; primary = primary.0; start = start.0; ttl = ttl })

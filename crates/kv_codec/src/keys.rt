@@ -2,12 +2,18 @@ ghost use Rattle.std.specs.Prelude.{◌≡◌, ◌<◌, ◌+◌, ◌^◌, ◌≤
 ghost use Rattle.flash_list.specs.Steps.{seen};
 ghost use Rattle.kv_codec.specs.Keys.{last_group, text_at, flipped, unflipped, record_at, parts_at, handle_in, handle_of, first_set};
 
+use byteorder::{BigEndian, ByteOrder};
+
 /// What is wrong with a key, and where.
 #[derive(Clone, Copy, Debug, PartialEq, Eq)]
 pub enum KeyError {
+    /// The key ends inside a group or inside its timestamp: its length.
     Short { at: u64 },
+    /// The marker at this place is below 0xF7.
     Marker { at: u64 },
+    /// The pad byte at this place isn't zero; it is the first such.
     Pad { at: u64 },
+    /// Bytes follow the last group: the first of them.
     Long { at: u64 },
 }
 
@@ -18,7 +24,7 @@ const FULL: u8 = 0xFF;
 const EMPTY: u8 = 0xF7;
 
 // A number with the sign bit flipped.
-fn flip(number: i64) -> u64
+pub fn flip(number: i64) -> u64
     ensures { result ≡ flipped number }
 {
     if number < 0 {
@@ -39,6 +45,13 @@ fn unflip(raw: u64) -> i64
 }
 
 /// The handle, where the key is a record key of the table; none where it is well formed and isn't.
+/// The key has no timestamp behind it.
+///
+/// A key is a text in groups of eight bytes, each with a marker behind it, as TiKV's
+/// memory-comparable bytes are: 0xFF on a full group, and less by the number of zero pads on the
+/// last group, which isn't full. The text of a record key is `t`, the table, `_r` and the handle,
+/// each number in eight bytes, big-endian, with its sign bit flipped. Faults are looked for group by
+/// group, in each the marker before the pads.
 #[tactic(auto, unfolding(crate::specs::Keys::record_at))]
 pub fn record_of(key: &[u8], table: i64) -> Result<Option<i64>, KeyError>
     ensures { result ≡ record_at table key.now }
@@ -173,7 +186,8 @@ fn handle_of(text: &[u8], table: i64) -> Option<i64>
     }
 }
 
-/// A key without its timestamp, and the timestamp.
+/// A key without its timestamp, and the timestamp: its last eight bytes, big-endian, with their bits
+/// flipped. `Short` exactly where there are fewer.
 #[tactic(auto, unfolding(crate::specs::Keys::parts_at))]
 pub fn split_ts(key: &[u8]) -> Result<(&[u8], u64), KeyError>
     ensures { seen (λ parts. (parts.0.now, parts.1)) result ≡ parts_at key.now }
@@ -184,6 +198,6 @@ pub fn split_ts(key: &[u8]) -> Result<(&[u8], u64), KeyError>
         });
     }
     let (front, ts) = key.split_at(key.len() - 8);
-    let flipped = u64::from_be_bytes([ts[0], ts[1], ts[2], ts[3], ts[4], ts[5], ts[6], ts[7]]);
+    let flipped = BigEndian::read_u64(ts);
     Ok((front, u64::MAX - flipped))
 }

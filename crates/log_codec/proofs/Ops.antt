@@ -61,10 +61,10 @@ value_behind end put bytes x e =
     let by_kind : (b : Bool) → cond b with_len (Ok ([], bytes)) ≡ Ok x → Behind bytes x.1 =
     elim [
       | true ↦ λ h.
-        let a = bind_ok (number_at w32 (passes end bytes) bytes) _ x h in
-        let n = number_found w32 (passes end bytes) bytes a.0 a.1 in
-        let f = bytes_found end a.0.0 a.0.1 x a.2 in
-        further bytes a.0.1 x.1 (behind_number w32 bytes a.0 n) (x.0, f.0)
+          let a = bind_ok (number_at w32 (passes end bytes) bytes) _ x h in
+          let n = number_found w32 (passes end bytes) bytes a.0 a.1 in
+          let f = bytes_found end a.0.0 a.0.1 x a.2 in
+          further bytes a.0.1 x.1 (behind_number w32 bytes a.0 n) (x.0, f.0)
       | false ↦ λ h. let same = ok_is ([], bytes) x h in ([], ap (λ p. p.1) same)
     ] in
     by_kind (eqb put 1) e

@@ -138,9 +138,9 @@ high_spelled end bytes x e all =
     elim [
       | zero ↦ λ le s h. subst (λ y. Spells bytes (S.high y.0) y.1 (HandleFits y.0)) (ok_is _ x h) (weaker bytes _ a.0.1 _ _ s (λ _. tt))
       | suc zero ↦ λ le s h.
-        let b = bind_ok (F.handle_at end a.0.1) _ x h in
-        let t = handle_spelled end a.0.1 b.0 b.1 s.rest_are in
-        subst (λ y. Spells bytes (S.high y.0) y.1 (HandleFits y.0)) (ok_is _ x b.2) (weaker bytes _ b.0.1 _ _ (chain bytes (1 ∷ []) a.0.1 (S.handle b.0.0) b.0.1 _ _ s t) (λ p. p.1))
+          let b = bind_ok (F.handle_at end a.0.1) _ x h in
+          let t = handle_spelled end a.0.1 b.0 b.1 s.rest_are in
+          subst (λ y. Spells bytes (S.high y.0) y.1 (HandleFits y.0)) (ok_is _ x b.2) (weaker bytes _ b.0.1 _ _ (chain bytes (1 ∷ []) a.0.1 (S.handle b.0.0) b.0.1 _ _ s t) (λ p. p.1))
       | suc (suc n) ↦ λ le s h. absurd (omega (arith, le))
     ] in
     by_flag a.0.0 f.fits.1 f a.2
@@ -242,7 +242,7 @@ each_spelled end most (suc count) bytes x few e all =
     let t = each_spelled end most count a.0.1 b.0 few b.1 s.rest_are in
     let whole = chain bytes (S.op a.0.0) a.0.1 (flat_map S.op b.0.0) b.0.1 _ _ s t in
     subst (λ y. Spells bytes (flat_map S.op y.0) y.1 (OpsFit most (suc count) y.0)) (ok_is (a.0.0 ∷ b.0.0, b.0.1) x b.2)
-      (weaker bytes _ b.0.1 _ _ whole (λ p. (ap suc p.1.0, All-cons (OpFits most) a.0.0 b.0.0 p.0 p.1.1)))
+    (weaker bytes _ b.0.1 _ _ whole (λ p. (ap suc p.1.0, All-cons (OpFits most) a.0.0 b.0.0 p.0 p.1.1)))
 
 ops_spelled : (end most : ℕ) (bytes : List ℕ) (x : List Op × List ℕ) → most ≤ 2 → F.ops_at end most bytes ≡ Ok x → AreBytes bytes → Spells bytes (S.ops x.0) x.1 (OpsCanBeWritten x.0 × KindsFit most x.0)
 unfolding F.ops_at F.each_op_at
@@ -478,7 +478,7 @@ columns_spelled end (suc count) least bytes x e all =
     let t = columns_spelled end count (H.above a.0.0) a.0.1 b.0 b.1 s.rest_are in
     let whole = chain bytes (S.column a.0.0) a.0.1 (flat_map S.column b.0.0) b.0.1 _ _ s t in
     subst (λ y. Spells bytes (flat_map S.column y.0) y.1 (ColumnsFit least (suc count) y.0)) (ok_is (a.0.0 ∷ b.0.0, b.0.1) x b.2)
-      (weaker bytes _ b.0.1 _ _ whole (λ p. (ap suc p.1.0, ((p.0.0, p.1.1.0), All-cons ColumnFits a.0.0 b.0.0 p.0.1 p.1.1.1))))
+    (weaker bytes _ b.0.1 _ _ whole (λ p. (ap suc p.1.0, ((p.0.0, p.1.1.0), All-cons ColumnFits a.0.0 b.0.0 p.0.1 p.1.1.1))))
 
 -- a header that was read is the spelling of what it gives, which can be written
 pub record IsHeader (bytes : List ℕ) (header : Header) (rest : List ℕ) : Type 0 where
@@ -514,10 +514,10 @@ header_spelled end bytes x e all =
     let magic_is : a.0.0 ≡ H.magic = only a.0.0 H.magic n.1.0 n.1.1 in
     let version_is : b.0.0 ≡ 1 = only b.0.0 1 m.1.0 m.1.1 in
     let written : to_be_bytes w64 a.0.0 ++ (to_be_bytes w16 b.0.0 ++ (to_be_bytes w64 c.0.0 ++ (to_be_bytes w16 d.0.0 ++ flat_map S.column f.0.0))) ≡ S.header header =
-      ap (λ z. to_be_bytes w64 z ++ (to_be_bytes w16 b.0.0 ++ (to_be_bytes w64 c.0.0 ++ (to_be_bytes w16 d.0.0 ++ flat_map S.column f.0.0)))) magic_is
-      ∙ ap (λ z. to_be_bytes w64 H.magic ++ (to_be_bytes w16 z ++ (to_be_bytes w64 c.0.0 ++ (to_be_bytes w16 d.0.0 ++ flat_map S.column f.0.0)))) version_is
-      ∙ ap (λ z. to_be_bytes w64 H.magic ++ (to_be_bytes w16 1 ++ (to_be_bytes w64 z ++ (to_be_bytes w16 d.0.0 ++ flat_map S.column f.0.0)))) back
-      ∙ ap (λ z. to_be_bytes w64 H.magic ++ (to_be_bytes w16 1 ++ (S.handle header.table ++ (to_be_bytes w16 z ++ flat_map S.column f.0.0)))) (sym columns.fits.0) in
+    ap (λ z. to_be_bytes w64 z ++ (to_be_bytes w16 b.0.0 ++ (to_be_bytes w64 c.0.0 ++ (to_be_bytes w16 d.0.0 ++ flat_map S.column f.0.0)))) magic_is
+    ∙ ap (λ z. to_be_bytes w64 H.magic ++ (to_be_bytes w16 z ++ (to_be_bytes w64 c.0.0 ++ (to_be_bytes w16 d.0.0 ++ flat_map S.column f.0.0)))) version_is
+    ∙ ap (λ z. to_be_bytes w64 H.magic ++ (to_be_bytes w16 1 ++ (to_be_bytes w64 z ++ (to_be_bytes w16 d.0.0 ++ flat_map S.column f.0.0)))) back
+    ∙ ap (λ z. to_be_bytes w64 H.magic ++ (to_be_bytes w16 1 ++ (S.handle header.table ++ (to_be_bytes w16 z ++ flat_map S.column f.0.0)))) (sym columns.fits.0) in
     let few : length f.0.0 ≤ 64 = omega (arith, columns.fits.0, k.1.1) in
     let can : HeaderCanBeWritten header = record { count = few; ids = columns.fits.1.0; kinds = λ i g lt. (columns.fits.1.1 i g lt).0 } in
     let numbers : HeaderNumbersFit header = record { table = sfits_to_z {w = w64} {n = c.0.0} (record { fits = table.fits }); ids = λ i g lt. (columns.fits.1.1 i g lt).1 } in

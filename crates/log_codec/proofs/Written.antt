@@ -100,7 +100,7 @@ op_again end most o rest fits kind =
     let one = append_assoc (to_be_bytes w16 (length o.key)) (o.key ++ S.value o.put o.value) rest in
     let two = append_assoc o.key (S.value o.put o.value) rest in
     let parts : S.op o ++ rest ≡ S.put_byte o.put ∷ S.family_byte o.family ∷ (to_be_bytes w16 (length o.key) ++ (o.key ++ tail)) =
-      ap (λ (xs : List ℕ). S.put_byte o.put ∷ S.family_byte o.family ∷ xs) (one ∙ ap (λ (xs : List ℕ). to_be_bytes w16 (length o.key) ++ xs) two) in
+    ap (λ (xs : List ℕ). S.put_byte o.put ∷ S.family_byte o.family ∷ xs) (one ∙ ap (λ (xs : List ℕ). to_be_bytes w16 (length o.key) ++ xs) two) in
     ap (F.op_at end most (tt {0})) parts ∙ rw (head_again end most o (o.key ++ tail) fits.key kind, bytes_again end o.key tail, value_again end o.put o.value rest fits.value fits.delete, put_again o.put, family_again o.family) refl
 
 all_head : {X : Type 0} (P : X → Type 0) (x : X) (xs : List X) → All P (x ∷ xs) → P x

@@ -22,12 +22,7 @@ pub fn body_of(alloc: Global, end: u64, bytes: &[u8]) -> Result<(Body, &[u8]), F
     kind_of(alloc, end, kind, rest)
 }
 
-fn kind_of(
-    alloc: Global,
-    end: u64,
-    kind: u8,
-    bytes: &[u8],
-) -> Result<(Body, &[u8]), FrameError>
+fn kind_of(alloc: Global, end: u64, kind: u8, bytes: &[u8]) -> Result<(Body, &[u8]), FrameError>
     ensures { Gives (λ x. (x.0, x.1.now)) result (body_of end kind bytes.now) }
 {
     match kind {

@@ -35,13 +35,22 @@ pub enum Body {
         high: Option<i64>,
     },
     /// The ops change the region's families, in order.
-    Write { ops: Ops },
+    Write {
+        ops: Ops,
+    },
     /// The child is born with the handles from `at` up.
-    Split { at: i64, child: u32 },
+    Split {
+        at: i64,
+        child: u32,
+    },
     /// The region gets ready to be merged into the target.
-    Prepare { target: u32 },
+    Prepare {
+        target: u32,
+    },
     /// The region takes the handles and families of the source.
-    Commit { source: u32 },
+    Commit {
+        source: u32,
+    },
     /// The region is gone.
     Remove,
     /// The region is born with what the ops put.

@@ -43,12 +43,7 @@ fn frame_of(alloc: Global, end: u64, bytes: &[u8]) -> Result<(Entry, &[u8]), Fra
 }
 
 #[tactic(auto, unfolding(crate::specs::Frames::sized_at))]
-fn sized_of(
-    alloc: Global,
-    end: u64,
-    len: u32,
-    bytes: &[u8],
-) -> Result<(Entry, &[u8]), FrameError>
+fn sized_of(alloc: Global, end: u64, len: u32, bytes: &[u8]) -> Result<(Entry, &[u8]), FrameError>
     ensures { Gives (λ x. (x.0, x.1.now)) result (sized_at end len bytes.now) }
 {
     let len = len as usize;

@@ -8,15 +8,18 @@ use crate::field::{passes, u8_in, u16_in, u64_in};
 use flash_list::{Items, u32_or, u64_or};
 use std::alloc::Global;
 
-/// A column of the table, with its kind as the file has it.
+/// A column of the table: its id, and its kind as the file has it, 1 for signed numbers, 2 for
+/// unsigned ones and 3 for bytes.
 #[derive(Clone, Copy, Debug, PartialEq, Eq)]
 pub struct ColumnSpec {
     pub id: u32,
     pub kind: u8,
 }
 
+/// The columns of a table, their ids rising.
 pub type ColumnSpecs = Items<ColumnSpec>;
 
+/// What a log is of.
 #[derive(Debug, Drop)]
 pub struct Header {
     pub table: i64,
@@ -27,7 +30,12 @@ pub(crate) const MAGIC: u64 = 0x464C_4153_484C_4F47;
 
 const MOST_COLUMNS: u16 = 64;
 
-/// The header at the front of the bytes, and the place behind it.
+/// The header at the front of a log file, and the place behind it.
+///
+/// It is `FLASHLOG`, the version 1 in 2 bytes, the table in 8, the number of columns in 2, at most
+/// 64, and for each column its id in 4 bytes and its kind in 1. Numbers are big-endian. Faults are
+/// looked for from left to right, a field at a time: `Short` where the file ends inside one, `Bad`
+/// where it holds what it may not. `Memory` may stand in the place of any of them and of the header.
 #[tactic(auto, unfolding(crate::specs::Header::headed))]
 pub fn read_header(alloc: Global, bytes: &[u8]) -> Result<(Header, usize), FrameError>
     ensures exact { Gives (λ x. x) result (headed bytes.now) }
