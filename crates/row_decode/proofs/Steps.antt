@@ -1,5 +1,5 @@
 -- Going over columns and ids one by one.
-use Rattle.std.proofs.Common.{◌≡◌, ℕ, zero, suc, ◌+◌, List, [], ◌∷◌, ◌++◌, drop, slice_get, Option, Some, Result, Ok, Bool, true, false, refl, add-one}
+use Rattle.std.proofs.Common.{◌≡◌, ℕ, zero, suc, ◌+◌, List, [], ◌∷◌, ◌++◌, drop, slice_get, Some, Result, Ok, Bool, true, false, refl, add-one}
 use Rattle.std.specs.Prelude.{find}
 use Rattle.flash_list.specs.Steps.{◌>>=◌}
 use Rattle.column_block.specs.declared.cell.Cell.{Cell}

@@ -5,7 +5,7 @@ mod decode;
 mod known;
 
 pub use decode::{DecodeError, cells};
-pub use known::unknown_column;
+pub use known::{unknown_column, wrong_width};
 
 #[cfg(test)]
 mod tests;

@@ -1,5 +1,5 @@
 // The cells of rows whose bytes were written out by hand.
-use crate::{DecodeError, cells, unknown_column};
+use crate::{DecodeError, cells, unknown_column, wrong_width};
 use column_block::{Cell, Column, Kind, Schema};
 use row_codec::RowView;
 use std::alloc::Global;
@@ -59,5 +59,6 @@ fn a_wrong_width(rt: HostRuntime) -> Result<(), Fail> {
         cells(rt.alloc(), &row, &schema).err(),
         Some(DecodeError::Width { id: 1 })
     );
+    assert_eq!(rt; wrong_width(&row, &schema), Some(1));
     Ok(())
 }
