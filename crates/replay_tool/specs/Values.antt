@@ -1,5 +1,6 @@
 -- Values as rows of a schema.
-use Rattle.std.specs.Prelude.{ℕ, Bool, true, false, ◌&&◌, List, [], map, Result, Ok, Err, is_ok, is_none, ◌==◌, if◌then◌else◌}
+use Rattle.std.specs.Prelude.{ℕ, Bool, true, false, ◌&&◌, List, [], map, Result, Ok, Err, is_none, ◌==◌, if◌then◌else◌}
+use Rattle.std.specs.Result.{result_err}
 use Rattle.column_block.specs.declared.cell.Cell.{Cell}
 use Rattle.column_block.specs.declared.column.Column.{Column}
 use Rattle.column_block.specs.declared.column.Kind.{Kind}
@@ -18,7 +19,7 @@ columns_of specs = map (λ (spec : ColumnSpec). record { id = spec.id; kind = ki
 
 -- the bytes are a row, each of its columns is one of these, and each value has a width that its column's kind allows
 abbrev pub is_row : List Column → List ℕ → Bool
-is_row columns bytes = elim (row_at bytes) [ Ok row ↦ is_ok (cells_of columns row) && is_none (unknown_column columns row) | Err fault ↦ false ]
+is_row columns bytes = elim (row_at bytes) [ Ok row ↦ is_none (result_err (cells_of columns row)) && is_none (unknown_column columns row) | Err fault ↦ false ]
 
 -- the cells of the row that the bytes are
 abbrev pub cells_in : List Column → List ℕ → List Cell

@@ -1,6 +1,5 @@
 // Values as rows of the log's schema.
-ghost use Rattle.std.specs.Prelude.{◌≡◌, IfOk, IsErrOf, is_ok, option_map};
-ghost use Rattle.column_block.specs.Cells.{cell_at, cells_of};
+ghost use Rattle.std.specs.Prelude.{◌≡◌, IfOk, IsErrOf};
 ghost use Rattle.column_block.specs.Schemas.{IsSchema};
 ghost use Rattle.replay_tool.specs.Values.{cells_in, columns_of, is_row, kind_of};
 
@@ -9,7 +8,7 @@ use column_block::{Cells, Column, Kind, Schema};
 use flash_list::Items;
 use log_codec::ColumnSpec;
 use row_codec::RowView;
-use row_decode::{DecodeError, cells, unknown_column};
+use row_decode::{DecodeError, cells, unknown_column, wrong_width};
 use std::alloc::{AllocError, Global};
 
 /// The schema that a log's header names. `Unbuilt` where its columns make none.
@@ -55,34 +54,8 @@ pub fn is_row(value: &[u8], schema: &Schema) -> bool
     ensures { result ≡ is_row schema.now value.now }
 {
     match RowView::read(value) {
-        Ok(row) => has_cells(&row, schema) && unknown_column(&row, schema).is_none(),
+        Ok(row) => wrong_width(&row, schema).is_none() && unknown_column(&row, schema).is_none(),
         Err(_) => false,
-    }
-}
-
-fn has_cells(row: &RowView<'_>, schema: &Schema) -> bool
-    ensures { result ≡ is_ok (cells_of schema.now row.now) }
-{
-    let columns = schema.columns();
-    for column in columns {
-        if !fits(column, row.value_near(column.id, 0)) {
-            return false;
-        }
-    }
-    true
-}
-
-fn fits(column: &Column, value: Option<&[u8]>) -> bool
-    ensures { result ≡ is_ok (cell_at column.now (option_map (λ bytes. bytes.now) value.entry)) }
-{
-    let Some(bytes) = value else {
-        return true;
-    };
-    match column.kind {
-        Kind::Bytes => true,
-        Kind::Int | Kind::Uint => {
-            bytes.len() == 1 || bytes.len() == 2 || bytes.len() == 4 || bytes.len() == 8
-        }
     }
 }
 
