@@ -87,5 +87,6 @@ fn a_removed_file_is_gone_or_back(rt: HostRuntime) {
     let kinds = count_kinds(rt.alloc(), 6).expect(&rt, "no fault");
     assert!(rt; kinds.absent > 0);
     assert!(rt; kinds.new > 0);
-    assert_eq!(rt; kinds.empty + kinds.old, 0);
+    assert_eq!(rt; kinds.empty, 0);
+    assert_eq!(rt; kinds.old, 0);
 }
