@@ -43,4 +43,5 @@ pub fn read_input<R: Env + AllocGlobal>(rt: &R) -> Result<Input, AllocError> {
 
 // The places of the paths of the log and of the store's directory. The script's stands between.
 const LOG: usize = 1;
+
 const DIR: usize = 3;

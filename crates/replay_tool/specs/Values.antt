@@ -1,5 +1,5 @@
 -- Values as rows of a schema.
-use Rattle.std.specs.Prelude.{ℕ, Bool, true, false, ◌&&◌, List, [], map, Result, Ok, Err, is_none, ◌==◌, if◌then◌else◌}
+use Rattle.std.specs.Prelude.{ℕ, Bool, false, ◌&&◌, List, [], map, Ok, Err, is_none, ◌==◌, if◌then◌else◌}
 use Rattle.std.specs.Result.{result_err}
 use Rattle.column_block.specs.declared.cell.Cell.{Cell}
 use Rattle.column_block.specs.declared.column.Column.{Column}
