@@ -1,0 +1,5 @@
+pub mod Readers
+pub mod Logs
+pub mod Texts
+pub mod OneRegion
+pub mod ManyRegions
