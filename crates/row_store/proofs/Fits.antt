@@ -1,6 +1,6 @@
 -- Whether a log file can hold an entry, computed.
-use Rattle.std.proofs.Common.{◌≡◌, ℕ, ℤ, pos, negsuc, zero, suc, ◌+◌, ◌^◌, ◌<◌, ◌≤◌, Bool, true, false, ltb, leb, ◌&&◌, ◌||◌, List, [], ◌∷◌, length, Option, Some, None, refl, sym, ap, ◌∙◌}
-use Rattle.std.specs.Prelude.{FitsSigned, nat_lt, nat_le, IsTrue}
+use Rattle.std.proofs.Common.{◌≡◌, ℕ, ℤ, ◌^◌, Bool, true, false, ◌&&◌, List, [], ◌∷◌, length, Option, Some, None, refl}
+use Rattle.std.specs.Prelude.{FitsSigned, nat_lt, nat_le}
 use Rattle.std.specs.Int.{w64}
 use Rattle.std.specs.Int.Signed.{mag}
 use Rattle.std.specs.List.{All, list_all}
@@ -12,7 +12,7 @@ use Rattle.log_codec.specs.declared.entry.Entry.{Entry}
 use Rattle.log_codec.specs.declared.entry.Op.{Op}
 use Rattle.log_codec.specs.declared.entry.Body.{Body}
 use Rattle.log_codec.specs.declared.entry.Body.TheVariants as body
-use Rattle.committed_log.specs.Lawful.{IsWritable, AllWritable}
+use Rattle.committed_log.specs.Lawful.{AllWritable}
 
 abbrev signed : ℤ → Bool
 signed z = nat_lt (mag z) (2 ^ 63)

@@ -1,3 +1,5 @@
 pub mod Fits
 pub mod OneRegion
 pub mod ManyRegions
+pub mod OneFile
+pub mod Sets

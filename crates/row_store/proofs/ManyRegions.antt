@@ -1,7 +1,6 @@
 -- The examples of several regions, computed.
 use Rattle.std.specs.Prelude.{◌≡◌, true, refl}
 use Rattle.std.proofs.Common.{arith}
-use Rattle.column_block.specs.Schemas.{IsSchema}
 use Rattle.committed_log.specs.Lawful.{IsLawful}
 use Rattle.row_store.proofs.Fits.{all_fit, all-true}
 use Rattle.row_store.proofs.OneRegion.{is_schema}

@@ -1,12 +1,12 @@
 -- The examples of one region, computed.
-use Rattle.std.specs.Prelude.{◌≡◌, pos, List, ◌∷◌, [], ◌++◌, refl, true, ◌≤◌, length}
+use Rattle.std.specs.Prelude.{◌≡◌, pos, List, ◌∷◌, [], ◌++◌, refl, true}
 use Rattle.std.proofs.Common.{arith}
 use Rattle.column_block.specs.Schemas.{IsSchema}
 use Rattle.log_codec.specs.declared.entry.Entry.{Entry}
-use Rattle.committed_log.specs.Lawful.{IsLawful, AllWritable}
+use Rattle.committed_log.specs.Lawful.{IsLawful}
 use Rattle.row_store.proofs.Fits.{all_fit, all-true}
 use Rattle.row_store.specs.Readers.{readers}
-use Rattle.row_store.specs.Logs.{columns, log_of, open_all, put_at, put_in, writes, five_ab}
+use Rattle.row_store.specs.Logs.{columns, log_of, put_in, writes, five_ab}
 use Rattle.row_store.specs.OneRegion.{one_put, put_twice, long_value, extremes, locked_by, put_and_delete, open_below_100, PutIsShown, CommitsRise, LongValueIsFound, ExtremesAreInOrder, LocksAreInTheWay, ReadsWait, DeletesHide, StrangeRowsAreRefused, BoundsKeep}
 
 pub is_schema : IsSchema columns
@@ -76,7 +76,7 @@ locks_are_in_the_way = record { lawful = locked_lawful; at_7 = refl; at_8 = refl
 
 pub reads_wait : ReadsWait
 unfolding readers
-reads_wait = record { index = refl; mark = refl; settled = refl }
+reads_wait = record { index = refl; mark = refl; at_mark = refl; settled = refl }
 
 put_and_delete_fits : all_fit put_and_delete ≡ true
 unfolding readers

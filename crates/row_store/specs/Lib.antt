@@ -3,3 +3,5 @@ pub mod Logs
 pub mod Texts
 pub mod OneRegion
 pub mod ManyRegions
+pub mod OneFile
+pub mod Sets

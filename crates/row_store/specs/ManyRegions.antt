@@ -1,5 +1,5 @@
 -- Logs of several regions: splits, merges, removals and installs.
-use Rattle.std.specs.Prelude.{◌≡◌, ℕ, pos, false, true, Option, Some, None, List, [], ◌∷◌, ◌++◌, codes}
+use Rattle.std.specs.Prelude.{◌≡◌, ℕ, pos, false, true, Some, None, List, [], ◌∷◌, ◌++◌, codes}
 use Rattle.column_block.specs.declared.cell.Cell.TheVariants as cell
 use Rattle.column_block.specs.declared.column.Kind.TheVariants as kind
 use Rattle.flash_types.specs.Asks.{Asked}
@@ -14,13 +14,12 @@ use Rattle.kv_codec.specs.declared.records.WriteKind.TheVariants as record_kind
 use Rattle.log_codec.specs.declared.entry.Entry.{Entry}
 use Rattle.log_codec.specs.declared.entry.Family.TheVariants as family
 use Rattle.log_codec.specs.declared.entry.Body.TheVariants as body
-use Rattle.committed_log.specs.Applied.{applied, next, is_ready, place}
-use Rattle.committed_log.specs.Lawful.{IsLawful, fault}
+use Rattle.committed_log.specs.Applied.{applied, next, is_ready}
+use Rattle.committed_log.specs.Lawful.{IsLawful}
 use Rattle.committed_log.specs.Log.{Log, at}
 use Rattle.committed_log.specs.Regions.{region}
 use Rattle.committed_log.specs.declared.region.Region.TheVariants.{Live, Prepared, Gone}
 use Rattle.committed_log.specs.Replies.{refused, IsRight, Refused, Answered}
-use Rattle.committed_log.specs.declared.unlawful.Unlawful.TheVariants as unlawful
 use Rattle.row_store.specs.Logs.{log_of, open_all, writes, entry, put_at, put_in, value_of, five_ab, five_ab_at, least_handle, everything, below_100, cut, asked, ask, ask_1, epoch, first, these}
 use Rattle.row_store.specs.Texts.{show_text}
 

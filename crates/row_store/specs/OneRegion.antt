@@ -1,5 +1,5 @@
 -- Logs of one region, and what they show.
-use Rattle.std.specs.Prelude.{◌≡◌, ℕ, ◌^◌, ◌-◌, pos, Option, Some, None, List, [], ◌∷◌, ◌++◌, codes}
+use Rattle.std.specs.Prelude.{◌≡◌, ℕ, pos, Some, None, List, [], ◌∷◌, ◌++◌, codes}
 use Rattle.column_block.specs.declared.cell.Cell.TheVariants as cell
 use Rattle.column_block.specs.declared.column.Bound.{Bound}
 use Rattle.flash_types.specs.declared.refusal.Refusal.TheVariants as refusal
@@ -10,7 +10,7 @@ use Rattle.committed_log.specs.Lawful.{IsLawful, fault}
 use Rattle.committed_log.specs.Reads.{rows, kept}
 use Rattle.committed_log.specs.Replies.{refused, IsRight, Refused, Answered}
 use Rattle.committed_log.specs.declared.unlawful.Unlawful.TheVariants as unlawful
-use Rattle.row_store.specs.Logs.{log_of, open_all, writes, entry, put_at, put_in, delete_at, lock_of, value_of, five_ab, one_null, with_id_3, five_ab_at, least_handle, greatest_handle, everything, cut_1, ask_1, epoch, first}
+use Rattle.row_store.specs.Logs.{log_of, open_all, writes, entry, put_at, put_in, delete_at, lock_of, value_of, five_ab, one_null, with_id_3, five_ab_at, least_handle, greatest_handle, everything, cut_1, ask_1, first}
 use Rattle.row_store.specs.Texts.{show_text}
 
 -- ---- one put
@@ -96,6 +96,7 @@ nine_puts = open_all ∷ writes 6 (put_at (pos 1) 10 five_ab) ∷ writes 7 (put_
 pub record ReadsWait : Type 0 where
   pub index : refused (log_of three_entries) (ask_1 1 9) (first 3) 0 0 ≡ Some (refusal.NotYet 1 (Some 7) (wants.Index 9))
   pub mark : refused (log_of nine_puts) (ask_1 10 5) (first 5) 0 9 ≡ Some (refusal.NotYet 1 (Some 9) (wants.Mark 5 9))
+  pub at_mark : refused (log_of nine_puts) (ask_1 10 5) (first 5) 0 5 ≡ None
   pub settled : refused (log_of nine_puts) (ask_1 10 5) (first 10) 0 9 ≡ None
 
 abbrev pub put_and_delete : List Entry

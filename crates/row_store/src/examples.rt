@@ -2,6 +2,8 @@
 // contracts are proved by computing.
 ghost use Rattle.row_store.specs.OneRegion.{PutIsShown, CommitsRise, LongValueIsFound, ExtremesAreInOrder, LocksAreInTheWay, ReadsWait, DeletesHide, StrangeRowsAreRefused, BoundsKeep};
 ghost use Rattle.row_store.specs.ManyRegions.{SplitsRaiseEpochs, MergesJoin, InstallsBeginAnew, GeneratedIsShown};
+ghost use Rattle.row_store.specs.OneFile.{FileIsRead};
+ghost use Rattle.row_store.specs.Sets.{PrefixesAreClosed, MergesWait};
 
 /// A put is shown from its commit timestamp on.
 pub fn put_is_shown()
@@ -66,4 +68,19 @@ pub fn installs_begin_anew()
 /// The generated log with one transaction is lawful, and shows its row at the end.
 pub fn generated_is_shown()
     ensures { GeneratedIsShown }
+{}
+
+/// A log file of one put is read as the log of one put.
+pub fn file_is_read()
+    ensures { FileIsRead }
+{}
+
+/// Entries that are applied in the order of the log make closed sets.
+pub fn prefixes_are_closed()
+    ensures { PrefixesAreClosed }
+{}
+
+/// Regions advance by themselves, but the commit of a merge needs the source's prepare.
+pub fn merges_wait()
+    ensures { MergesWait }
 {}
