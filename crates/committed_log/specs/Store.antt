@@ -7,29 +7,17 @@ use Rattle.std.specs.BTreeMap.{insert_entry, is_at}
 use Rattle.std.specs.Map.{lookup, remove_entry}
 use Rattle.flash_types.specs.Ranges.{holds}
 use Rattle.flash_types.specs.declared.range.HandleRange.{HandleRange}
-use Rattle.kv_codec.specs.declared.records.LockKind.{LockKind}
 use Rattle.log_codec.specs.declared.entry.Entry.{Entry}
 use Rattle.log_codec.specs.declared.entry.Body.{Body}
 use Rattle.log_codec.specs.declared.entry.Body.TheVariants as body
 use Rattle.log_codec.specs.declared.entry.Op.{Op}
+pub use Rattle.committed_log.specs.declared.store.Commit.{Commit}
+pub use Rattle.committed_log.specs.declared.store.Lock.{Lock}
 use Rattle.committed_log.specs.declared.op.LastCommit.{LastCommit}
 use Rattle.committed_log.specs.declared.op.FamilyOp.{FamilyOp}
 use Rattle.committed_log.specs.declared.op.FamilyOp.TheVariants as change
 use Rattle.committed_log.specs.Changes.{change_of}
 use Rattle.committed_log.specs.Regions.{Region, region, range_of, regions_after}
-
--- a lock on a row by the transaction that began at the start
-pub record Lock : Type 0 where
-  pub kind : LockKind
-  pub start : ℕ
-
--- a committed put (its value) or delete (none) of a row: its timestamp, that of its transaction's start, and the position of the entry that has it
-pub record Commit : Type 0 where
-  pub handle : ℤ
-  pub ts : ℕ
-  pub start : ℕ
-  pub value : Option (List ℕ)
-  pub position : ℕ
 
 -- The regions by number, the values by handle and start, and the locks by handle, each list in the order of its keys; the commits, the oldest first.
 pub record Store : Type 0 where

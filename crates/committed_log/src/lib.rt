@@ -5,8 +5,10 @@
 
 mod op;
 mod region;
+mod store;
 mod unlawful;
 
 pub use op::{FamilyOp, LastCommit, OpFault};
 pub use region::{Descriptor, Region};
+pub use store::{Commit, Lock};
 pub use unlawful::{RegionState, RowFault, Unlawful};
