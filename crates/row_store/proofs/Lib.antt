@@ -3,3 +3,5 @@ pub mod OneRegion
 pub mod ManyRegions
 pub mod OneFile
 pub mod Sets
+pub mod Rest
+pub mod Entries

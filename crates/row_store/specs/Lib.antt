@@ -5,3 +5,4 @@ pub mod OneRegion
 pub mod ManyRegions
 pub mod OneFile
 pub mod Sets
+pub mod Stands
