@@ -4,4 +4,5 @@ pub mod ManyRegions
 pub mod OneFile
 pub mod Sets
 pub mod Rest
-pub mod Entries
+pub mod Putting
+pub mod Dropping

@@ -6,3 +6,4 @@ pub mod ManyRegions
 pub mod OneFile
 pub mod Sets
 pub mod Stands
+pub mod Newest

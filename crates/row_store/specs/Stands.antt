@@ -1,5 +1,5 @@
 -- Entries in the order of their keys.
-use Rattle.std.specs.Prelude.{ℕ, Bool, false, Option, Some, None, List, slice_get}
+use Rattle.std.specs.Prelude.{ℕ, Bool, false, Some, None, List, slice_get}
 use Rattle.std.specs.BTreeMap.{is_at}
 use Rattle.std.specs.declared.cmp.Ordering.{Ordering}
 

@@ -3,6 +3,7 @@
 #![tactic(auto)]
 
 mod changes;
+mod entries;
 mod examples;
 mod regions;
 mod sorted;

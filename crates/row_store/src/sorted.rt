@@ -61,11 +61,11 @@ fn stands_at<K: Ord, V>(entries: &[(K, V)], at: usize, key: &K) -> bool
 }
 
 /// Takes out what stands at a key.
-pub fn drop_entry<K: Ord + Drop, V: Drop>(entries: &mut Vec<(K, V)>, key: &K)
-    ensures { entries.new.items ≡ remove_entry (is_at (K.cmp key.now)) entries.old.items }
+pub fn drop_entry<K: Ord + Copy, V: Drop>(entries: &mut Vec<(K, V)>, key: K)
+    ensures { entries.new.items ≡ remove_entry (is_at (K.cmp key)) entries.old.items }
 {
     for i in 0..entries.len() {
-        if is_at(key, &entries[i].0) {
+        if is_at(&key, &entries[i].0) {
             let _ = entries.remove(i);
             return;
         }

@@ -1,4 +1,4 @@
-use Rattle.row_store.proofs.Entries.{put_before_seen, put_over_seen, ok_so}
+use Rattle.row_store.proofs.Putting.{put_before_seen, put_over_seen, ok_so}
 use Rattle.row_store.proofs.sorted.put_entry.Goals as goal
 
 pub returns-then-stands_at : goal.returns-then-stands_at
