@@ -6,3 +6,4 @@ pub mod Sets
 pub mod Rest
 pub mod Putting
 pub mod Dropping
+pub mod Keeping

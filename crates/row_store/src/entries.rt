@@ -1,16 +1,14 @@
 // The row store, entry by entry.
-ghost use Rattle.std.specs.Prelude.{◌≡◌, ℕ, ℤ, List, OnOk, IfOk, filter, not};
-ghost use Rattle.flash_types.specs.Ranges.{holds};
+ghost use Rattle.std.specs.Prelude.{◌≡◌, OnOk, IfOk};
 ghost use Rattle.committed_log.specs.Store.{after_op, after_ops, cleared, families_after, after_entry, store_of};
-ghost use Rattle.committed_log.specs.declared.store.Commit.{Commit as Committed};
-ghost use Rattle.committed_log.specs.declared.store.Lock.{Lock as Locked};
 
+use crate::Stop;
 use crate::changes::change_of;
+use crate::regions::range_of;
 use crate::store::Store;
 use column_block::Memory;
-use committed_log::{Commit, Lock};
 use flash_types::HandleRange;
-use log_codec::{Body, Entry, Op, OpBytes};
+use log_codec::{Body, Entry, Op};
 use std::alloc::Global;
 
 /// Does an op of the entry at a position, whose region has this range.
@@ -50,53 +48,89 @@ fn do_ops(
     Ok(())
 }
 
-/// The values of handles outside of a range.
-pub fn values_outside(
+// The families after an entry of a region that has this range where it is there.
+fn do_body(
     alloc: Global,
-    range: HandleRange,
-    values: Vec<((i64, u64), OpBytes)>,
-) -> Result<Vec<((i64, u64), OpBytes)>, Memory>
-    ensures { IfOk result (λ kept. kept.items ≡ filter (λ (e : (ℤ × ℕ) × List ℕ). not (holds range e.0.0)) values.items) }
+    table: i64,
+    position: u64,
+    there: Option<HandleRange>,
+    body: &Body,
+    store: &mut Store,
+) -> Result<(), Memory>
+    ensures { OnOk result (store.new ≡ families_after table position there body.now store.old) }
 {
-    let mut kept = Vec::new(alloc);
-    for entry in values {
-        if !range.holds(entry.0.0) && kept.push(entry).is_err() {
-            return Err(Memory);
-        }
+    match body {
+        Body::Write { ops } => match there {
+            Some(range) => do_ops(alloc, table, range, position, store, ops.as_slice()),
+            None => Ok(()),
+        },
+        Body::Remove => match there {
+            Some(range) => store.clear(alloc, range),
+            None => Ok(()),
+        },
+        Body::Install { low, high, ops, .. } => install(
+            alloc,
+            table,
+            position,
+            HandleRange {
+                low: *low,
+                high: *high,
+            },
+            ops.as_slice(),
+            store,
+        ),
+        Body::Open { .. } => Ok(()),
+        Body::Split { .. } => Ok(()),
+        Body::Prepare { .. } => Ok(()),
+        Body::Commit { .. } => Ok(()),
+        Body::Empty => Ok(()),
     }
-    Ok(kept)
 }
 
-/// The locks of handles outside of a range.
-pub fn locks_outside(
+fn install(
     alloc: Global,
+    table: i64,
+    position: u64,
     range: HandleRange,
-    locks: Vec<(i64, Lock)>,
-) -> Result<Vec<(i64, Lock)>, Memory>
-    ensures { IfOk result (λ kept. kept.items ≡ filter (λ (e : ℤ × Locked). not (holds range e.0)) locks.items) }
+    ops: &[Op],
+    store: &mut Store,
+) -> Result<(), Memory>
+    ensures { OnOk result (store.new ≡ after_ops table range position (cleared range store.old) ops.now) }
 {
-    let mut kept = Vec::new(alloc);
-    for entry in locks {
-        if !range.holds(entry.0) && kept.push(entry).is_err() {
-            return Err(Memory);
-        }
+    if store.clear(alloc, range).is_err() {
+        return Err(Memory);
     }
-    Ok(kept)
+    do_ops(alloc, table, range, position, store, ops)
 }
 
-/// The commits on handles outside of a range.
-pub fn commits_outside(
+// The store after the entry at a position.
+fn do_entry(
     alloc: Global,
-    range: HandleRange,
-    commits: Vec<Commit>,
-) -> Result<Vec<Commit>, Memory>
-    ensures { IfOk result (λ kept. kept.items ≡ filter (λ (c : Committed). not (holds range c.handle)) commits.items) }
+    table: i64,
+    position: u64,
+    store: &mut Store,
+    entry: &Entry,
+) -> Result<(), Stop>
+    ensures { OnOk result (store.new ≡ after_entry table position store.old entry.now) }
 {
-    let mut kept = Vec::new(alloc);
-    for commit in commits {
-        if !range.holds(commit.handle) && kept.push(commit).is_err() {
-            return Err(Memory);
-        }
+    let there = range_of(store.state(entry.region));
+    match do_body(alloc, table, position, there, &entry.body, store) {
+        Ok(()) => store.advance(entry),
+        Err(_) => Err(Stop::Memory),
     }
-    Ok(kept)
+}
+
+/// The store after these entries of a table's log.
+pub fn store_of(alloc: Global, table: i64, entries: &[Entry]) -> Result<Store, Stop>
+    ensures { IfOk result (λ store. store ≡ store_of table entries.now) }
+{
+    let mut store = Store::new(alloc);
+    let mut position = 0u64;
+    for entry in entries {
+        if let Err(stop) = do_entry(alloc, table, position, &mut store, entry) {
+            return Err(stop);
+        }
+        position += 1;
+    }
+    Ok(store)
 }

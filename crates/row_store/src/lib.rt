@@ -5,6 +5,7 @@
 mod changes;
 mod entries;
 mod examples;
+mod outside;
 mod regions;
 mod sorted;
 mod store;
@@ -19,6 +20,7 @@ pub enum Stop {
 }
 
 pub use changes::change_of;
+pub use entries::store_of;
 pub use examples::{
     bounds_keep, commits_rise, deletes_hide, extremes_are_in_order, file_is_read,
     generated_is_shown, installs_begin_anew, locks_are_in_the_way, long_value_is_found,

@@ -1,18 +1,25 @@
 // The row store after some entries.
 ghost use Rattle.std.specs.Prelude.{◌≡◌, OnOk, IfOk, option_map};
-ghost use Rattle.committed_log.specs.Store.{empty, after_change, value_cmp, newest, last_commit, is_repeated, committed_value};
+ghost use Rattle.committed_log.specs.Store.{empty, after_change, value_cmp, newest, last_commit, is_repeated, committed_value, cleared};
+ghost use Rattle.committed_log.specs.Regions.{region, regions_after};
+ghost use Rattle.row_store.specs.Newest.{with_regions};
 ghost use Rattle.committed_log.specs.declared.op.FamilyOp.TheVariants as change;
 ghost use Rattle.std.specs.BTreeMap.{is_at};
 ghost use Rattle.std.specs.Map.{remove_entry};
 ghost use Rattle.std.specs.Ordering.{int_cmp};
 ghost use Rattle.row_store.specs.Newest.{is_up_to, is_newer};
 
+use crate::Stop;
+use crate::outside::{commits_outside, locks_outside, values_outside};
+use crate::regions::{region, regions_after};
 use crate::sorted::{drop_entry, entry_at, put_entry};
 use column_block::Memory;
 use committed_log::{Commit, FamilyOp, LastCommit, Lock, Region};
-use log_codec::OpBytes;
+use flash_types::HandleRange;
+use log_codec::{Entry, OpBytes};
 use std::alloc::Global;
 use std::marker::Model;
+use std::mem::replace;
 
 /// The regions and the column families, as lists.
 #[derive(Debug, Drop)]
@@ -42,6 +49,56 @@ impl Store {
             locks: Vec::new(alloc),
             commits: Vec::new(alloc),
         }
+    }
+
+    /// The state of a region.
+    pub fn state(&self, r: u32) -> Region
+        ensures { result ≡ region self.now.regions r }
+    {
+        region(&self.regions, r)
+    }
+
+    /// The commits, the oldest first.
+    pub fn commits(&self) -> &[Commit]
+        ensures { result.now ≡ self.now.commits }
+    {
+        &self.commits
+    }
+
+    /// The locks, by handle.
+    pub fn locks(&self) -> &[(i64, Lock)]
+        ensures { result.now ≡ self.now.locks }
+    {
+        &self.locks
+    }
+
+    /// The regions after an entry. The families stay.
+    pub fn advance(&mut self, entry: &Entry) -> Result<(), Stop>
+        ensures { OnOk result (self.new ≡ with_regions (regions_after self.old.regions entry.now) self.old) }
+    {
+        regions_after(&mut self.regions, entry)
+    }
+
+    /// Leaves nothing of the handles in a range.
+    pub fn clear(&mut self, alloc: Global, range: HandleRange) -> Result<(), Memory>
+        ensures { OnOk result (self.new ≡ cleared range self.old) }
+    {
+        let values = replace(&mut self.values, Vec::new(alloc));
+        let Ok(values) = values_outside(alloc, range, values) else {
+            return Err(Memory);
+        };
+        let locks = replace(&mut self.locks, Vec::new(alloc));
+        let Ok(locks) = locks_outside(alloc, range, locks) else {
+            return Err(Memory);
+        };
+        let commits = replace(&mut self.commits, Vec::new(alloc));
+        let Ok(commits) = commits_outside(alloc, range, commits) else {
+            return Err(Memory);
+        };
+        self.values = values;
+        self.locks = locks;
+        self.commits = commits;
+        Ok(())
     }
 
     /// Makes one change, by the entry at a position.
