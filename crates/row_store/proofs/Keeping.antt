@@ -1,5 +1,5 @@
 -- The families' changes leave the regions.
-use Rattle.std.proofs.Common.{◌≡◌, ℕ, ℤ, zero, suc, ◌+◌, Bool, true, false, cond, List, [], ◌∷◌, ◌++◌, fold, Option, Some, None, Result, Ok, Err, refl, sym, ap, ◌∙◌}
+use Rattle.std.proofs.Common.{◌≡◌, ℕ, ℤ, Bool, true, false, cond, List, [], ◌∷◌, Option, Some, None, Result, Ok, Err, refl, ap, ◌∙◌}
 use Rattle.flash_types.specs.declared.range.HandleRange.{HandleRange}
 use Rattle.log_codec.specs.declared.entry.Entry.{Entry}
 use Rattle.log_codec.specs.declared.entry.Body.{Body}
@@ -8,7 +8,7 @@ use Rattle.log_codec.specs.declared.entry.Op.{Op}
 use Rattle.committed_log.specs.Changes.{change_of}
 use Rattle.committed_log.specs.declared.op.OpFault.{OpFault}
 use Rattle.committed_log.specs.Regions.{region, range_of, regions_after}
-use Rattle.committed_log.specs.Store.{Store, after_change, after_op, after_ops, cleared, families_after, after_entry, is_repeated, last_commit}
+use Rattle.committed_log.specs.Store.{Store, after_change, after_op, after_ops, families_after, after_entry, is_repeated, last_commit}
 use Rattle.committed_log.specs.declared.op.FamilyOp.{FamilyOp}
 use Rattle.committed_log.specs.declared.op.FamilyOp.TheVariants as change
 use Rattle.row_store.specs.Newest.{with_regions}

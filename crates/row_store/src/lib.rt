@@ -6,6 +6,7 @@ mod changes;
 mod entries;
 mod examples;
 mod outside;
+mod reads;
 mod regions;
 mod sorted;
 mod store;
@@ -27,6 +28,7 @@ pub use examples::{
     merges_join, merges_wait, prefixes_are_closed, put_is_shown, reads_wait, splits_raise_epochs,
     strange_rows_are_refused,
 };
+pub use reads::{first_lock, shown};
 pub use regions::{acts_on, index_of, range_of, region};
 pub use sorted::{drop_entry, entry_at, put_entry};
 pub use store::Store;

@@ -176,7 +176,7 @@ fn drop_lock(locks: &mut Vec<(i64, Lock)>, handle: i64) -> Result<(), Memory>
 }
 
 // Of the commits on a handle the one with the greatest timestamp, up to one where it is given.
-fn newest(commits: &[Commit], most: Option<u64>, handle: i64) -> Option<&Commit>
+pub fn newest(commits: &[Commit], most: Option<u64>, handle: i64) -> Option<&Commit>
     ensures { option_map (λ c. c.now) result ≡ newest (is_up_to most) handle commits.now }
 {
     let mut best: Option<&Commit> = None;
