@@ -40,7 +40,7 @@ pub record SplitsRaiseEpochs : Type 0 where
 abbrev pub two_merged : List Entry
 two_merged = entry 1 5 (body.Open 1 1 least_handle (Some (pos 100))) ∷ entry 2 5 (body.Open 1 1 (pos 100) None) ∷ writes 6 (put_at (pos 5) 10 five_ab) ∷ entry 1 7 (body.Prepare 2) ∷ entry 2 6 (body.Commit 1) ∷ []
 
--- The commit of a merge waits for the source's prepare. After it the target has all handles, and the source is gone.
+-- The commit of a merge waits for the source's prepare. After it the target has all handles, and the source is gone. (Refused: that the commit is ready before, and that the target has version 2.)
 pub record MergesJoin : Type 0 where
   pub lawful : IsLawful (log_of two_merged)
   pub early : is_ready (log_of two_merged) (these (0 ∷ 1 ∷ [])) 4 ≡ false
@@ -57,7 +57,7 @@ pub record MergesJoin : Type 0 where
 abbrev pub installed : List Entry
 installed = open_all ∷ writes 6 (put_at (pos 5) 10 five_ab) ∷ entry 1 7 body.Remove ∷ entry 9 20 (body.Install 3 4 least_handle None (put_at (pos 6) 9 five_ab ∷ [])) ∷ []
 
--- a removal clears its region's rows, and an install begins with its own, also with an earlier commit
+-- A removal clears its region's rows, and an install begins with its own, also with an earlier commit. (Refused: that the rows of before the removal show again.)
 pub record InstallsBeginAnew : Type 0 where
   pub lawful : IsLawful (log_of installed)
   pub rows : IsRight (log_of installed) (ask 10 9 (epoch 3 4) 20) None (first 4) 0 0 (Answered (cut 9 20 (epoch 3 4) ∷ []) (five_ab_at (pos 6) ∷ []))

@@ -24,7 +24,7 @@ put_bytes =
     0x74 ∷ 0x80 ∷ 0 ∷ 0 ∷ 0 ∷ 0 ∷ 0 ∷ 0 ∷ 0xFF ∷ 1 ∷ 0x5F ∷ 0x72 ∷ 0x80 ∷ 0 ∷ 0 ∷ 0 ∷ 0 ∷ 0xFF ∷ 0 ∷ 0 ∷ 5 ∷ 0 ∷ 0 ∷ 0 ∷ 0 ∷ 0 ∷ 0xFA
     ∷ 0xFF ∷ 0xFF ∷ 0xFF ∷ 0xFF ∷ 0xFF ∷ 0xFF ∷ 0xFF ∷ 0xF5 ∷ []
 
--- a put is shown from its commit timestamp on
+-- A put is shown from its commit timestamp on. (Refused: that a read at 9 shows it.)
 pub record PutIsShown : Type 0 where
   pub key : (put_at (pos 5) 10 five_ab).key ≡ put_bytes
   pub value : (put_at (pos 5) 10 five_ab).value ≡ 0x50 ∷ 7 ∷ 0x76 ∷ 15 ∷ five_ab
@@ -42,7 +42,7 @@ put_at_20 = open_all ∷ writes 6 (put_at (pos 5) 20 five_ab) ∷ []
 abbrev pub put_twice : List Entry
 put_twice = put_at_20 ++ writes 7 (put_at (pos 5) 20 five_ab) ∷ []
 
--- a handle's commits come with rising timestamps, but for the last one said again, which changes nothing
+-- A handle's commits come with rising timestamps, but for the last one said again, which changes nothing. (Refused: that it is backdated.)
 pub record CommitsRise : Type 0 where
   pub backdated : fault (log_of put_at_20) (writes 7 (put_at (pos 5) 15 five_ab)) ≡ Some (unlawful.Backdated 0 20)
   pub again : IsLawful (log_of put_twice)
@@ -74,7 +74,7 @@ pub record ExtremesAreInOrder : Type 0 where
 abbrev pub locked_by : ℕ → List Entry
 locked_by kind = open_all ∷ writes 6 (lock_of (pos 5) (kind ∷ 2 ∷ 97 ∷ 8 ∷ 0 ∷ [])) ∷ []
 
--- a lock for a put is in the way of reads from its start on, and no lock of another kind is
+-- A lock for a put is in the way of reads from its start on, and no lock of another kind is. (Refused: that a pessimistic lock is in the way at 8, and that the lock for a put is at 7.)
 pub record LocksAreInTheWay : Type 0 where
   pub lawful : IsLawful (log_of (locked_by 0x50))
   pub at_7 : refused (log_of (locked_by 0x50)) (ask_1 7 5) (first 2) 0 0 ≡ None
@@ -92,7 +92,7 @@ abbrev pub nine_puts : List Entry
 nine_puts = open_all ∷ writes 6 (put_at (pos 1) 10 five_ab) ∷ writes 7 (put_at (pos 2) 10 five_ab) ∷ writes 8 (put_at (pos 3) 10 five_ab) ∷ writes 9 (put_at (pos 4) 10 five_ab)
     ∷ writes 10 (put_at (pos 5) 10 five_ab) ∷ writes 11 (put_at (pos 6) 10 five_ab) ∷ writes 12 (put_at (pos 7) 10 five_ab) ∷ writes 13 (put_at (pos 8) 10 five_ab) ∷ writes 14 (put_at (pos 9) 10 five_ab) ∷ []
 
--- a read waits for its index, and for all entries below the mark
+-- A read waits for its index, and for all entries below the mark. (That it waits for the entry at the mark itself was stated, and the check refused it.)
 pub record ReadsWait : Type 0 where
   pub index : refused (log_of three_entries) (ask_1 1 9) (first 3) 0 0 ≡ Some (refusal.NotYet 1 (Some 7) (wants.Index 9))
   pub mark : refused (log_of nine_puts) (ask_1 10 5) (first 5) 0 9 ≡ Some (refusal.NotYet 1 (Some 9) (wants.Mark 5 9))
