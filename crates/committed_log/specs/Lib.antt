@@ -1,0 +1,9 @@
+pub mod Changes
+pub mod Regions
+pub mod Store
+pub mod Log
+pub mod Admission
+pub mod Lawful
+pub mod Applied
+pub mod Reads
+pub mod Replies
