@@ -42,6 +42,7 @@ impl MemDisk {
     /// that were listed before. All calls count that answer a `Result`. A call that is to fail
     /// changes nothing but counts.
     pub fn set_failing(&mut self, failing: Vec<u64>)
+        ensures calls { self.new.calls ≡ self.old.calls }
         ensures failing { self.new.failing.items ≡ failing.items }
         ensures files { ⟦<MemDisk as Disk>⟧.files self.new ≡ ⟦<MemDisk as Disk>⟧.files self.old }
         ensures images { (image : Image) → ⟦<MemDisk as Disk>⟧.may_leave self.new image ↔ ⟦<MemDisk as Disk>⟧.may_leave self.old image }
@@ -54,6 +55,7 @@ impl MemDisk {
     /// Lets these calls of each reader fail that is made from now on, counted from 1 for each.
     /// `Memory` leaves the list as it was.
     pub fn set_reader_failing(&mut self, failing: Vec<u64>) -> Result<(), Memory>
+        ensures calls { self.new.calls ≡ self.old.calls }
         ensures failing { OnOk result (listed self.new.reader_failing ≡ failing.items) }
         ensures kept { OnErr result (listed self.new.reader_failing ≡ listed self.old.reader_failing) }
         ensures own { self.new.failing.items ≡ self.old.failing.items }

@@ -44,6 +44,7 @@ impl MemSink {
     /// Lets these writes fail, counted from 1 since the sink was made, in the place of those that
     /// were listed before.
     pub fn set_failing(&mut self, failing: Vec<u64>)
+        ensures calls { self.new.calls ≡ self.old.calls }
         ensures failing { self.new.failing.items ≡ failing.items }
         ensures contents { ⟦<MemSink as Sink>⟧.contents self.new ≡ ⟦<MemSink as Sink>⟧.contents self.old }
         ensures count { ⟦<MemSink as Sink>⟧.fault_count self.new ≡ ⟦<MemSink as Sink>⟧.fault_count self.old }

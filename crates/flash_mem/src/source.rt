@@ -38,6 +38,7 @@ impl MemSource {
     /// Lets these reads fail, counted from 1 since the source was made, in the place of those that
     /// were listed before.
     pub fn set_failing(&mut self, failing: Vec<u64>)
+        ensures calls { self.new.calls ≡ self.old.calls }
         ensures failing { self.new.failing.items ≡ failing.items }
         ensures left { ⟦<MemSource as Source>⟧.left self.new ≡ ⟦<MemSource as Source>⟧.left self.old }
         ensures count { ⟦<MemSource as Source>⟧.fault_count self.new ≡ ⟦<MemSource as Source>⟧.fault_count self.old }
