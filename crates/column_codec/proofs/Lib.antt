@@ -1,0 +1,11 @@
+pub mod Bounds
+pub mod NullSteps
+pub mod ValueSteps
+pub mod TextPlaces
+pub mod WriteSteps
+pub mod Again
+pub mod NullsAgain
+pub mod Agree
+pub mod SpelledNumbers
+pub mod SpelledNulls
+pub mod SpelledLists
