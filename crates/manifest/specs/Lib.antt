@@ -1,0 +1,10 @@
+pub mod Faults
+pub mod Fields
+pub mod Edits
+pub mod Gated
+pub mod States
+pub mod Walk
+pub mod Header
+pub mod Laws
+pub mod Example
+pub mod Spelling
