@@ -7,3 +7,14 @@ pub mod Lawful
 pub mod Applied
 pub mod Reads
 pub mod Replies
+pub mod Shorts
+pub mod Outcomes
+pub mod Laws
+pub mod Families
+pub mod Repeats
+pub mod Numbers
+pub mod Tables
+pub mod Indexed
+pub mod ReadIndex
+pub mod Digest
+pub mod Owned

@@ -3,12 +3,34 @@
 //! when it is refused. The definitions stand in `specs`; `docs/MODEL.md` tells them in prose.
 #![tactic(auto)]
 
+mod admit_head;
+mod admit_ops;
+mod admit_regions;
+mod chains;
+mod change;
+mod clearing;
+mod digest;
+mod families;
+pub mod laws;
+mod logs;
 mod op;
 mod region;
+mod rows;
+mod sizes;
 mod store;
+mod tables;
 mod unlawful;
 
+pub use admit_head::{Regions, range_of_region, region_of};
+pub use admit_regions::step_regions;
+pub use change::{ChangeError, change_of};
+pub use digest::{begun, extended};
+pub use logs::Logs;
 pub use op::{FamilyOp, LastCommit, OpFault};
 pub use region::{Descriptor, Region};
+pub use rows::check_row;
 pub use store::{Commit, Lock};
 pub use unlawful::{RegionState, RowFault, Unlawful};
+
+#[cfg(test)]
+mod tests;

@@ -7,3 +7,4 @@ pub mod Rest
 pub mod Putting
 pub mod Dropping
 pub mod Keeping
+pub mod Finding

@@ -5,5 +5,6 @@ pub mod OneRegion
 pub mod ManyRegions
 pub mod OneFile
 pub mod Sets
+pub mod Tests
 pub mod Stands
 pub mod Newest

@@ -3,17 +3,16 @@ ghost use Rattle.std.specs.Prelude.{◌≡◌, OnOk, IfOk};
 ghost use Rattle.committed_log.specs.Store.{after_op, after_ops, cleared, families_after, after_entry, store_of};
 
 use crate::Stop;
-use crate::changes::change_of;
 use crate::regions::range_of;
 use crate::store::Store;
 use column_block::Memory;
+use committed_log::{ChangeError, change_of};
 use flash_types::HandleRange;
 use log_codec::{Body, Entry, Op};
 use std::alloc::Global;
 
 /// Does an op of the entry at a position, whose region has this range.
 fn do_op(
-    alloc: Global,
     table: i64,
     range: HandleRange,
     position: u64,
@@ -22,16 +21,16 @@ fn do_op(
 ) -> Result<(), Memory>
     ensures { OnOk result (store.new ≡ after_op table range position store.old op.now) }
 {
-    match change_of(alloc, table, range, op) {
-        Err(memory) => Err(memory),
-        Ok(Err(_)) => Ok(()),
-        Ok(Ok(None)) => Ok(()),
-        Ok(Ok(Some(change))) => store.change(position, change),
+    match change_of(table, range, op) {
+        Err(ChangeError::Memory) => Err(Memory),
+        Err(ChangeError::BadKey) => Ok(()),
+        Err(ChangeError::BadRecord) => Ok(()),
+        Ok(None) => Ok(()),
+        Ok(Some(change)) => store.change(position, change),
     }
 }
 
 fn do_ops(
-    alloc: Global,
     table: i64,
     range: HandleRange,
     position: u64,
@@ -41,7 +40,7 @@ fn do_ops(
     ensures { OnOk result (store.new ≡ after_ops table range position store.old ops.now) }
 {
     for op in ops {
-        if do_op(alloc, table, range, position, store, op).is_err() {
+        if do_op(table, range, position, store, op).is_err() {
             return Err(Memory);
         }
     }
@@ -61,7 +60,7 @@ fn do_body(
 {
     match body {
         Body::Write { ops } => match there {
-            Some(range) => do_ops(alloc, table, range, position, store, ops.as_slice()),
+            Some(range) => do_ops(table, range, position, store, ops.as_slice()),
             None => Ok(()),
         },
         Body::Remove => match there {
@@ -100,7 +99,7 @@ fn install(
     if store.clear(alloc, range).is_err() {
         return Err(Memory);
     }
-    do_ops(alloc, table, range, position, store, ops)
+    do_ops(table, range, position, store, ops)
 }
 
 // The store after the entry at a position.

@@ -2,10 +2,11 @@
 //! lists alone whose contracts are the definitions.
 #![tactic(auto)]
 
-mod changes;
 mod entries;
 mod examples;
+mod log;
 mod outside;
+mod positions;
 mod reads;
 mod regions;
 mod sorted;
@@ -20,7 +21,6 @@ pub enum Stop {
     Number,
 }
 
-pub use changes::change_of;
 pub use entries::store_of;
 pub use examples::{
     bounds_keep, commits_rise, deletes_hide, extremes_are_in_order, file_is_read,
@@ -28,7 +28,12 @@ pub use examples::{
     merges_join, merges_wait, prefixes_are_closed, put_is_shown, reads_wait, splits_raise_epochs,
     strange_rows_are_refused,
 };
+pub use log::SmallLog;
+pub use positions::{applied, is_settled, next, next_of, place, state};
 pub use reads::{first_lock, shown};
 pub use regions::{acts_on, index_of, range_of, region};
 pub use sorted::{drop_entry, entry_at, put_entry};
 pub use store::Store;
+
+#[cfg(test)]
+mod tests;

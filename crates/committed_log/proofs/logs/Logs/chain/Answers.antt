@@ -1,0 +1,7 @@
+use Rattle.std.proofs.Common.{sym, subst}
+use Rattle.committed_log.specs.Lawful.{AllWritable}
+use Rattle.committed_log.proofs.Writable.{writable_take}
+use Rattle.committed_log.proofs.logs.Logs.chain.Goals as goal
+
+pub extended_over-requires : goal.extended_over-requires
+extended_over-requires c = writable_take c.args.n c.deref.result.now (subst AllWritable (sym c.deref.ensures.value) c.self.invariant.lawful.writable)
