@@ -4,14 +4,33 @@
     python3 make_log.py < description > log
 
 A description has one line for each thing, in order; blank lines and lines that begin with # are
-passed over.
+passed over. Names of columns' values are ids.
 
     table 1
     column 1 int                    int, uint or bytes
-    open 1 5 1 1 min end            region, index, conf version, version, low, high
-    write 1 6                       region, index; the puts that follow are its ops
+
+Entries, each with its region and index:
+
+    open 1 5 1 1 min end            conf version, version, low, high
+    install 9 20 3 4 min end        the same; the puts that follow are its ops
+    write 1 6                       the ops that follow are its own
+    split 1 7 100 2                 at this handle, with this child
+    prepare 1 8 2                   to be merged into this target
+    commit 2 6 1                    takes in this source
+    remove 1 9
+    empty 1 10
+
+Ops:
+
     put 5 10 7 1=5 2=x6162          handle, commit timestamp, start timestamp, columns
-    put 6 10 7 1=null
+    value 5 7 1=5 2=x6162           a put in default: handle, start timestamp, columns
+    put-value 5 10 7                a put record whose value stands in default
+    delete 5 10 7                   a delete record
+    lock-record 5 10 7              a lock record of the write family, which changes nothing
+    rollback 5 7                    a rollback record, which changes nothing
+    lock 5 7 P                      handle, start timestamp, kind (P, D, L or S)
+    unlock 5
+    drop-value 5 7                  a delete in default
 
 `min` is the least handle, and `end` stands for no high end. A column is an id and `null`, a number,
 or `x` and hexadecimal bytes. docs/FORMATS.md describes the bytes.
@@ -30,9 +49,13 @@ def memcomparable(text):
     return b"".join(g + bytes(8 - len(g)) + bytes([0xFF - (8 - len(g))]) for g in groups)
 
 
-def write_key(table, handle, ts):
+def record_key(table, handle):
     text = b"t" + struct.pack(">Q", table + SIGN) + b"_r" + struct.pack(">Q", handle + SIGN)
-    return memcomparable(text) + struct.pack(">Q", (1 << 64) - 1 - ts)
+    return memcomparable(text)
+
+
+def timed_key(table, handle, ts):
+    return record_key(table, handle) + struct.pack(">Q", (1 << 64) - 1 - ts)
 
 
 def leb128(number):
@@ -70,10 +93,35 @@ def row(columns):
     return bytes(out) + data
 
 
+def op(family, key, value=None):
+    """A put of a value, or a delete, in the family 1 (default), 2 (lock) or 3 (write)."""
+    out = bytes([2 if value is None else 1, family]) + struct.pack(">H", len(key)) + key
+    return out if value is None else out + struct.pack(">I", len(value)) + value
+
+
+def write_op(table, handle, ts, kind, start, short=None):
+    record = kind + leb128(start)
+    if short is not None:
+        record += b"v" + bytes([len(short)]) + short
+    return op(3, timed_key(table, handle, ts), record)
+
+
 def put_op(table, handle, ts, start, value):
-    key = write_key(table, handle, ts)
-    record = b"P" + leb128(start) + b"v" + bytes([len(value)]) + value
-    return b"\x01\x03" + struct.pack(">H", len(key)) + key + struct.pack(">I", len(record)) + record
+    return write_op(table, handle, ts, b"P", start, value)
+
+
+def value_op(table, handle, start, value):
+    return op(1, timed_key(table, handle, start), value)
+
+
+def lock_op(table, handle, kind, start, ttl=0):
+    key = record_key(table, handle)
+    record = kind + leb128(2 * len(key)) + key + leb128(start) + leb128(ttl)
+    return op(2, key, record)
+
+
+def unlock_op(table, handle):
+    return op(2, record_key(table, handle))
 
 
 def header(table, columns):
@@ -91,8 +139,16 @@ def open_body(conf_ver, version, low, high):
     return struct.pack(">QQq", conf_ver, version, low) + end
 
 
-def write_body(ops):
+def ops_body(ops):
     return struct.pack(">I", len(ops)) + b"".join(ops)
+
+
+def split_body(at, child):
+    return struct.pack(">qI", at, child)
+
+
+def region_body(region):
+    return struct.pack(">I", region)
 
 
 def cell(text, kind):
@@ -103,39 +159,66 @@ def cell(text, kind):
     return least_width(int(text), kind == "int")
 
 
+def row_of(columns, words):
+    kinds = dict(columns)
+    fields = sorted((int(i), v) for i, v in (w.split("=") for w in words))
+    return row([(i, cell(v, kinds.get(i, "bytes"))) for i, v in fields])
+
+
+OPS = ("put", "value", "put-value", "delete", "lock-record", "rollback", "lock", "unlock", "drop-value")
+
+
+def op_of(table, columns, what, args):
+    """The op of a line, which is one of OPS."""
+    numbers = [int(a) for a in args if "=" not in a and a not in "PDLS"]
+    words = [a for a in args if "=" in a]
+    return {
+        "put": lambda: put_op(table, *numbers, row_of(columns, words)),
+        "value": lambda: value_op(table, *numbers, row_of(columns, words)),
+        "put-value": lambda: write_op(table, numbers[0], numbers[1], b"P", numbers[2]),
+        "delete": lambda: write_op(table, numbers[0], numbers[1], b"D", numbers[2]),
+        "lock-record": lambda: write_op(table, numbers[0], numbers[1], b"L", numbers[2]),
+        "rollback": lambda: write_op(table, numbers[0], numbers[1], b"R", numbers[1]),
+        "lock": lambda: lock_op(table, numbers[0], args[2].encode(), numbers[1]),
+        "unlock": lambda: unlock_op(table, *numbers),
+        "drop-value": lambda: op(1, timed_key(table, *numbers)),
+    }[what]()
+
+
+def entry_of(what, args):
+    """Kind and body of an entry's line, but for its ops."""
+    if what in ("open", "install"):
+        low = LEAST if args[2] == "min" else int(args[2])
+        high = None if args[3] == "end" else int(args[3])
+        return (1 if what == "open" else 7), open_body(int(args[0]), int(args[1]), low, high)
+    return {
+        "write": lambda: (2, b""),
+        "split": lambda: (3, split_body(int(args[0]), int(args[1]))),
+        "prepare": lambda: (4, region_body(int(args[0]))),
+        "commit": lambda: (5, region_body(int(args[0]))),
+        "remove": lambda: (6, b""),
+        "empty": lambda: (8, b""),
+    }[what]()
+
+
 def make(lines):
-    table, columns, out, pending = 0, [], None, None
+    table, columns, entries = 0, [], []
     for line in lines:
-        words = line.split()
-        if not words or words[0].startswith("#"):
+        what, *args = line.split() or ["#"]
+        if what.startswith("#"):
             continue
-        what, args = words[0], words[1:]
         if what == "table":
             table = int(args[0])
         elif what == "column":
             columns.append((int(args[0]), args[1]))
-        elif what == "put":
-            kinds = dict(columns)
-            fields = sorted((int(i), v) for i, v in (a.split("=") for a in args[3:]))
-            value = row([(i, cell(v, kinds.get(i, "bytes"))) for i, v in fields])
-            pending[2].append(put_op(table, int(args[0]), int(args[1]), int(args[2]), value))
+        elif what in OPS:
+            entries[-1][4].append(op_of(table, columns, what, args))
         else:
-            out = header(table, columns) if out is None else out
-            if pending:
-                out += frame(pending[0], pending[1], 2, write_body(pending[2]))
-                pending = None
-            region, index = int(args[0]), int(args[1])
-            if what == "open":
-                low = LEAST if args[4] == "min" else int(args[4])
-                high = None if args[5] == "end" else int(args[5])
-                out += frame(region, index, 1, open_body(int(args[2]), int(args[3]), low, high))
-            elif what == "write":
-                pending = (region, index, [])
-            else:
-                raise ValueError(f"no such line: {line}")
-    out = header(table, columns) if out is None else out
-    if pending:
-        out += frame(pending[0], pending[1], 2, write_body(pending[2]))
+            kind, body = entry_of(what, args[2:])
+            entries.append((int(args[0]), int(args[1]), kind, body, []))
+    out = header(table, columns)
+    for region, index, kind, body, ops in entries:
+        out += frame(region, index, kind, body + (ops_body(ops) if kind in (2, 7) else b""))
     return out
 
 

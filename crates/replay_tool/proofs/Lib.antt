@@ -1,9 +1,8 @@
 pub mod Numbers
-pub mod Frames
-pub mod Gather
-pub mod Turns
-pub mod Sums
-pub mod Kept
-pub mod Fronts
-pub mod Shows
+pub mod Knowing
+pub mod Clearing
+pub mod Files
+pub mod Members
+pub mod Listed
 pub mod Runs
+pub mod Completes

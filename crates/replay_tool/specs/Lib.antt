@@ -1,9 +1,7 @@
 pub mod Values
-pub mod Rows
 pub mod Logs
+pub mod Causes
+pub mod Folds
 pub mod Texts
 pub mod Words
-pub mod Errors
-pub mod Views
-pub mod Seen
 pub mod Runs

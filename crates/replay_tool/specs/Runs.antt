@@ -1,11 +1,14 @@
 -- How a run may end, and what it has read and written by then.
-use Rattle.std.specs.Prelude.{◌≡◌, ◌⊎◌, ℕ, ◌<◌, ◌≤◌, List, [], ◌∷◌, ◌++◌, length, codes, Option, None}
+use Rattle.std.specs.Prelude.{◌≡◌, ◌⊎◌, ℕ, ◌<◌, ◌≤◌, List, [], ◌∷◌, ◌++◌, length, codes, Option, None, Some}
 use Rattle.std.specs.Io.KnownBytes.{Consumes, Appends, IsAtEnd, Keeps}
 use Rattle.flash_io.specs.Faults.{Rose}
 use Rattle.flash_io.specs.Streams.{TakesFront}
 use Rattle.replay_tool.specs.declared.status.Status.{Status}
 use Rattle.replay_tool.specs.declared.status.Status.TheVariants.{Done, Usage, Log, LogFault, Output, Memory}
-use Rattle.replay_tool.specs.Logs.{IsNoFirstLog}
+use Rattle.committed_log.specs.Log.{Log as Entries}
+use Rattle.replay_tool.specs.Logs.{IsRefused, IsLogFile}
+use Rattle.replay_tool.specs.Causes.{refusal_text}
+use Rattle.replay_tool.specs.declared.cause.Refusal.{Refusal}
 use Rattle.replay_tool.specs.Texts.{Shows}
 use Rattle.replay_tool.specs.Words.{AreShow, Ask}
 
@@ -46,11 +49,11 @@ pub record ReadsLog (ends : Ends) (bytes : List ℕ) : Type 0 where
 abbrev pub line_of : List ℕ → List ℕ
 line_of text = text ++ 10 ∷ []
 
--- What is said of a log that isn't shown: it has more bytes than a log may have, or was read to its end and is no first log.
+-- What is said of a log that isn't shown: it has more bytes than a log may have, or was read to its end and is refused at its header or a frame.
 abbrev pub SaysOfLog : Ends → List ℕ → List ℕ → Type 0
 SaysOfLog ends bytes text =
     ((268435456 < length bytes) × Consumes ends.left ends.left' bytes × (text ≡ line_of (codes "refused log limit")))
-    ⊎ (ReadsLog ends bytes × IsNoFirstLog bytes × (text ≡ line_of (codes "refused log unbuilt")))
+    ⊎ (ReadsLog ends bytes × ((r : Refusal) × IsRefused bytes r × (text ≡ refusal_text r)))
 
 -- the log was read to its end, and this is the text of the rows that the words ask for
 pub record ShowsLog (words : List (List ℕ)) (ends : Ends) (text : List ℕ) : Type 0 where
@@ -107,15 +110,26 @@ pub record Shown (words : List (List ℕ)) (ends : Ends) : Type 0 where
   pub shows : ShowsLog words ends text
   pub written : Appends ends.held ends.held' text
 
+-- Where the words ask for rows, what the log's source tells is a lawful log of no more bytes than a log may have, and nothing failed, the rows are shown or memory ran out.
+abbrev pub IsComplete : List (List ℕ) → Ends → ℕ → Type 0
+IsComplete words ends code = (bytes : List ℕ) (log : Entries) → Ask words → ends.left ≡ Some bytes → length bytes ≤ 268435456 → IsLogFile bytes log
+    → (Rose ends.read_faults ends.read_faults' → ⊥) → (Rose ends.write_faults ends.write_faults' → ⊥) → (code ≡ 0) ⊎ (code ≡ 9)
+
 -- ---- the parts of a run
 
 -- how showing the rows of these bytes ends
 abbrev pub ShowEnds : ℕ → List ℕ → Ends → Status → Type 0
 ShowEnds ts bytes ends Done = (text : List ℕ) × Shows ts bytes text × Appends ends.held ends.held' text
-ShowEnds ts bytes ends Log = IsNoFirstLog bytes × Writes ends (line_of (codes "refused log unbuilt"))
+ShowEnds ts bytes ends Log = (r : Refusal) × IsRefused bytes r × Writes ends (refusal_text r)
 ShowEnds ts bytes ends Output = (text : List ℕ) × Shows ts bytes text × WritesFront ends text
 ShowEnds ts bytes ends Memory = Keeps ends.held ends.held'
 ShowEnds ts bytes ends other = ⊥
+
+-- how refusing a log ends
+abbrev pub RefusalEnds : Refusal → Ends → Status → Type 0
+RefusalEnds r ends Log = Writes ends (refusal_text r)
+RefusalEnds r ends Memory = Keeps ends.held ends.held'
+RefusalEnds r ends other = ⊥
 
 -- how `show` at this timestamp ends
 abbrev pub RunShowEnds : ℕ → Ends → Status → Type 0

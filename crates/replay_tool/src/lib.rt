@@ -1,8 +1,9 @@
 //! The commands over a log, from bytes to bytes.
 #![tactic(auto)]
 
-mod commit;
-mod first;
+mod cause;
+mod clear;
+mod fold;
 mod log;
 mod rows;
 mod run;

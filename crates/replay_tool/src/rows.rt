@@ -1,124 +1,106 @@
-// The rows that a read is shown.
-ghost use Rattle.std.specs.Prelude.{◌≡◌, ◌≤◌, ◌++◌, ◌∷◌, [], List, Contains, IfOk, OnOk, IsErrOf, IfSome, IsNone, Some, None, ◌<◌, map, filter_map};
-ghost use Rattle.std.specs.Ordering.{int_cmp};
+// The rows that a read at the log's end is shown.
+ghost use Rattle.std.specs.Prelude.{◌≡◌, ◌++◌, ℕ, IfOk, OnOk};
+ghost use Rattle.std.specs.Option.{is_some};
 ghost use Rattle.std.specs.BTreeMap.{IsOrdered};
-ghost use Rattle.replay_tool.specs.Rows.{Commit as Stored, Rise, AreRows};
-ghost use Rattle.replay_tool.specs.Seen.{Sums, Knows, IsAbove, IsBackdated, shown_row};
-ghost use Rattle.replay_tool.specs.Views.{view, views, row_view};
+ghost use Rattle.std.specs.Ordering.{int_cmp};
+ghost use Rattle.committed_log.specs.Log.{end};
+ghost use Rattle.committed_log.specs.Numbers.{AreRoomy};
+ghost use Rattle.committed_log.specs.Store.{Store, after_entry};
+ghost use Rattle.committed_log.specs.Reads.{rows_at_end};
+ghost use Rattle.replay_tool.specs.Folds.{Holds, row_of_known, shown_rows, lines_of};
+ghost use Rattle.replay_tool.specs.Texts.{rows_text, last_line};
 
-use crate::commit::Commit;
-use crate::log::ShowError;
+use crate::fold::{Fold, Known};
+use crate::value::cells_in;
+use column_block::{Row, Schema};
+use committed_log::{Logs, Regions, range_of_region, region_of, step_regions};
 use flash_types::{Handle, Ts};
-use std::alloc::Global;
+use log_codec::Entry;
+use std::alloc::{AllocError, Global};
 use std::collections::BTreeMap;
+use tool_text::print_row;
 
-/// What is known of a handle's commits so far.
-#[derive(Clone, Copy, Debug)]
-pub struct Seen<'a> {
-    /// The last one's timestamp.
-    pub last: Ts,
-    /// The value of the newest one that the read may see, where there is one and it is a put.
-    pub value: Option<&'a [u8]>,
-}
-
-/// A handle and the value that is shown of it.
-#[derive(Clone, Copy, Debug)]
-pub struct Shown<'a> {
-    pub handle: Handle,
-    pub value: &'a [u8],
-}
-
-/// The rows that a read at the timestamp is shown of these commits, oldest first. `Unbuilt` where
-/// a handle's commits don't come with rising timestamps.
-pub fn rows_of<'a>(
-    alloc: Global,
-    commits: &[Commit<'a>],
-    ts: Ts,
-) -> Result<Vec<Shown<'a>>, ShowError>
-    ensures rows { IfOk result (λ rows. Rise (views commits.now) × AreRows (views commits.now) ts (map row_view rows.items)) }
-    ensures other { IsErrOf result ShowError.Unbuilt → Rise (views commits.now) → ⊥ }
+/// The text of the rows that a read at the timestamp is shown at the log's end, over all handles.
+pub fn rows_text(alloc: Global, logs: &Logs, ts: Ts) -> Result<Vec<u8>, AllocError>
+    ensures { IfOk result (λ text. text.items ≡ rows_text (rows_at_end logs.now ts)) }
 {
-    let mut handles = BTreeMap::new(alloc);
-    for commit in commits {
-        if let Err(error) = note(&mut handles, ts, commit) {
+    let fold = folded(alloc, logs, ts)?;
+    text_of(alloc, logs.schema(), &fold)
+}
+
+// What the log's entries leave.
+fn folded(alloc: Global, logs: &Logs, ts: Ts) -> Result<Fold, AllocError>
+    ensures holds { IfOk result (λ fold. Holds (end logs.now) ts fold.values fold.handles) }
+{
+    let mut fold = Fold::new(alloc, ts);
+    let mut regions = BTreeMap::new(alloc);
+    let mut position = 0;
+    logs.told_lawful();
+    while position < logs.len() {
+        if let Err(error) = step(&mut fold, &mut regions, logs.table(), logs.entry(position)) {
             return Err(error);
         }
+        position += 1;
     }
-    list_rows(alloc, &handles)
+    Ok(fold)
 }
 
-// One more commit.
-fn note<'a>(
-    handles: &mut BTreeMap<Handle, Seen<'a>>,
-    ts: Ts,
-    commit: &Commit<'a>,
-) -> Result<(), ShowError>
-    ensures noted { OnOk result ((before : List Stored) → Sums before ts handles.old → Sums (before ++ view commit.now ∷ []) ts handles.new) }
-    ensures backdated { IsErrOf result ShowError.Unbuilt → (before : List Stored) → Sums before ts handles.old → IsBackdated before (view commit.now) }
+fn step(fold: &mut Fold, regions: &mut Regions, table: i64, entry: &Entry) -> Result<(), AllocError>
+    requires { AreRoomy regions.old.entries }
+    ensures ts { fold.new.ts ≡ fold.old.ts }
+    ensures regions { OnOk result ((p : ℕ) (s : Store) → regions.old.entries ≡ s.regions → regions.new.entries ≡ (after_entry table p s entry.now).regions) }
+    ensures holds { OnOk result ((p : ℕ) (s : Store) → regions.old.entries ≡ s.regions → Holds s fold.old.ts fold.old.values fold.old.handles → Holds (after_entry table p s entry.now) fold.old.ts fold.new.values fold.new.handles) }
 {
-    let known = handles.get(&commit.handle).copied();
-    let Some(seen) = next_seen(known, ts, commit) else {
-        return Err(ShowError::Unbuilt);
-    };
-    let Ok(_) = handles.insert(commit.handle, seen) else {
-        return Err(ShowError::Memory);
-    };
-    Ok(())
-}
-
-// What is known with this commit; none where its timestamp isn't above the last one.
-fn next_seen<'a>(known: Option<Seen<'a>>, ts: Ts, commit: &Commit<'a>) -> Option<Seen<'a>>
-    ensures next { IfSome result (λ seen. (before : List Stored) → Knows before ts commit.now.handle known.entry → IsAbove before (view commit.now) × Knows (before ++ view commit.now ∷ []) ts commit.now.handle (Some seen)) }
-    ensures backdated { IsNone result → (before : List Stored) → Knows before ts commit.now.handle known.entry → IsBackdated before (view commit.now) }
-{
-    let Some(seen) = known else {
-        return Some(Seen {
-            last: commit.ts,
-            value: value_in_time(ts, commit),
-        });
-    };
-    if commit.ts <= seen.last {
-        return None;
+    let range = range_of_region(region_of(regions, entry.region));
+    if let Err(error) = fold.entry(table, range, entry) {
+        return Err(error);
     }
-    if commit.ts <= ts {
-        return Some(Seen {
-            last: commit.ts,
-            value: commit.value,
-        });
-    }
-    Some(Seen {
-        last: commit.ts,
-        value: seen.value,
-    })
+    step_regions(regions, entry)
 }
 
-// The commit's value, where the read may see it.
-fn value_in_time<'a>(ts: Ts, commit: &Commit<'a>) -> Option<&'a [u8]>
-    ensures seen { commit.now.ts ≤ ts → result ≡ commit.now.value }
-    ensures late { ts < commit.now.ts → result ≡ None }
+fn text_of(alloc: Global, schema: &Schema, fold: &Fold) -> Result<Vec<u8>, AllocError>
+    ensures text { IfOk result (λ text. text.items ≡ rows_text (shown_rows schema.now fold.now.handles)) }
+    ensures ordered { IsOrdered int_cmp fold.now.handles }
 {
-    if commit.ts <= ts { commit.value } else { None }
-}
-
-// The handles of which a value is seen.
-fn list_rows<'a>(
-    alloc: Global,
-    handles: &BTreeMap<Handle, Seen<'a>>,
-) -> Result<Vec<Shown<'a>>, ShowError>
-    ensures rows { IfOk result (λ rows. map row_view rows.items ≡ filter_map shown_row handles.now.entries) }
-    ensures memory { IsErrOf result ShowError.Unbuilt → ⊥ }
-    ensures ordered { IsOrdered int_cmp handles.now }
-{
-    let mut rows = Vec::new(alloc);
-    for (handle, seen) in handles {
-        if let Some(value) = seen.value {
-            let Ok(()) = rows.push(Shown {
-                handle: *handle,
-                value,
-            }) else {
-                return Err(ShowError::Memory);
-            };
+    let mut text = Vec::new(alloc);
+    let mut count = 0;
+    for (handle, known) in fold.handles.iter() {
+        if push_row(alloc, schema, *handle, known, &mut text)? {
+            count += 1;
         }
     }
-    Ok(rows)
+    push_count(alloc, &mut text, count)?;
+    Ok(text)
+}
+
+// Adds the row's line, where a value is seen of the handle. The answer is whether it is.
+fn push_row(
+    alloc: Global,
+    schema: &Schema,
+    handle: Handle,
+    known: &Known,
+    text: &mut Vec<u8>,
+) -> Result<bool, AllocError>
+    ensures line { OnOk result (text.new.items ≡ text.old.items ++ lines_of (row_of_known schema.now (handle, known.now))) }
+    ensures counted { IfOk result (λ shown. shown ≡ is_some (row_of_known schema.now (handle, known.now))) }
+{
+    let Some(seen) = &known.seen else {
+        return Ok(false);
+    };
+    let Some(value) = &seen.value else {
+        return Ok(false);
+    };
+    let cells = cells_in(alloc, value.as_slice(), schema)?;
+    match print_row(&Row { handle, cells }, text) {
+        Ok(()) => Ok(true),
+        Err(_no_memory) => Err(AllocError),
+    }
+}
+
+#[tactic(auto, unfolding(crate::specs::Texts::last_line))]
+fn push_count(alloc: Global, text: &mut Vec<u8>, count: usize) -> Result<(), AllocError>
+    ensures { OnOk result (text.new.items ≡ text.old.items ++ last_line count) }
+{
+    let line = format!(in alloc; "rows {count}\n")?;
+    text.extend_from_slice(line.as_bytes())
 }

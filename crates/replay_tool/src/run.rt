@@ -3,9 +3,10 @@ ghost use Rattle.std.specs.Prelude.{◌≡◌, ◌↔◌, ◌∷◌, [], Contain
 ghost use Rattle.std.specs.Io.KnownBytes.{IsAtEnd};
 ghost use Rattle.flash_io.specs.Faults.{Rose};
 ghost use Rattle.replay_tool.specs.Words.{Ask};
-ghost use Rattle.replay_tool.specs.Runs.{EndsWith, EndsWithCode, Refuses, Shown, RunShowEnds, ShowEnds, Writes, between, writing};
+ghost use Rattle.replay_tool.specs.Runs.{EndsWith, EndsWithCode, Refuses, Shown, RunShowEnds, ShowEnds, RefusalEnds, IsComplete, Writes, between, writing};
 
-use crate::log::ShowError;
+use crate::cause::{Refusal, push_refusal};
+use crate::log::LogError;
 use crate::show::shown_text;
 use crate::status::Status;
 use crate::words::read_show;
@@ -22,7 +23,7 @@ const MOST_LOG: u64 = 268_435_456;
 /// |---|---|---|
 /// | 0 | all was done | the command's |
 /// | 2 | the words are no command | `refused words` |
-/// | 3 | the log has more than 268,435,456 bytes, or isn't one that can be shown | `refused log limit`, `refused log unbuilt` |
+/// | 3 | the log has more than 268,435,456 bytes, or its header or a frame is refused | `refused log limit`, `refused log frame N CAUSE` |
 /// | 5 | a read of the log failed | `fault log` |
 /// | 8 | a write failed | the front of the command's text |
 /// | 9 | memory ran out | nothing |
@@ -30,8 +31,9 @@ const MOST_LOG: u64 = 268_435_456;
 /// At 2, 3 and 5 a front of the text is written where a write failed. The whole log is read before
 /// its first byte is looked at, and the whole text is made before its first byte is written.
 ///
-/// `show N` prints the rows that a read at the timestamp N is shown at the log's end: of each
-/// handle the newest commit that isn't after N, where it is a put.
+/// `show N` prints the rows that a read at the timestamp N is shown at the log's end, over all
+/// handles: of each the newest commit that isn't after N, where it is a put. Where the log is lawful
+/// and nothing failed the status is 0, or 9.
 pub fn replay<R: AllocGlobal, L: Source, W: Sink>(
     rt: &R,
     words: &WordList,
@@ -45,6 +47,7 @@ pub fn replay<R: AllocGlobal, L: Source, W: Sink>(
     ensures out_fault { result ≡ 8 → Rose (W.fault_count out.old) (W.fault_count out.new) }
     ensures shown { result ≡ 0 → Shown words.now (between L.left L.fault_count W.contents W.fault_count log.old log.new out.old out.new) }
     ensures read_whole { result ≡ 0 → IsAtEnd (L.left log.new) }
+    ensures complete { IsComplete words.now (between L.left L.fault_count W.contents W.fault_count log.old log.new out.old out.new) result }
     ensures prefix { EndsWithCode words.now (between L.left L.fault_count W.contents W.fault_count log.old log.new out.old out.new) result }
 {
     run(rt.alloc(), words, log, out).code()
@@ -88,11 +91,22 @@ fn show<W: Sink>(alloc: Global, bytes: &[u8], ts: Ts, out: &mut W) -> Status
             Ok(()) => Status::Done,
             Err(_failed) => Status::Output,
         },
-        Err(ShowError::Unbuilt) => {
-            refuse(out, b"refused log unbuilt\n");
+        Err(LogError::Refused(refusal)) => refuse_log(alloc, refusal, out),
+        Err(LogError::Memory) => Status::Memory,
+    }
+}
+
+// Writes what is refused and why.
+fn refuse_log<W: Sink>(alloc: Global, refusal: Refusal, out: &mut W) -> Status
+    ensures { RefusalEnds refusal (writing W.contents W.fault_count out.old out.new) result }
+{
+    let mut text = Vec::new(alloc);
+    match push_refusal(alloc, refusal, &mut text) {
+        Ok(()) => {
+            refuse(out, &text);
             Status::Log
         }
-        Err(ShowError::Memory) => Status::Memory,
+        Err(_no_memory) => Status::Memory,
     }
 }
 

@@ -1,5 +1,6 @@
 use Rattle.std.proofs.Common.{sym, ◌∙◌}
 use Rattle.replay_tool.proofs.Runs.{words_clause, refused_clause, log_fault_clause, out_fault_clause, shown_clause, is_answer}
+use Rattle.replay_tool.proofs.Completes.{complete_clause}
 use Rattle.replay_tool.proofs.run.replay.Goals as goal
 
 pub returns-clause-words : goal.returns-clause-words
@@ -22,3 +23,6 @@ returns-clause-shown g c = λ e. shown_clause c.args.words.now _ c.run.result c.
 
 pub returns-clause-read_whole : goal.returns-clause-read_whole
 returns-clause-read_whole g c = λ e. (shown_clause c.args.words.now _ c.run.result c.run.ensures (sym c.code.ensures ∙ e)).shows.read.ended
+
+pub returns-clause-complete : goal.returns-clause-complete
+returns-clause-complete g c = rw c.code.ensures (complete_clause c.args.words.now _ c.run.result c.run.ensures)
