@@ -1,6 +1,5 @@
 pub mod Keys
 pub mod Records
 pub mod Views
-pub mod Appending
 pub mod Spelling
 pub mod Laws

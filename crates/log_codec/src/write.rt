@@ -2,15 +2,15 @@
 ghost use Rattle.std.specs.Prelude.{◌≡◌, ◌++◌, ◌∷◌, [], ◌<◌, ◌≤◌, ◌^◌, length, OnOk, OnErr, take};
 ghost use Rattle.std.specs.Int.{w16, w32, w64, to_be_bytes};
 ghost use Rattle.std.specs.List.{All, flat_map};
-ghost use Rattle.log_codec.specs.Appending.{Appends};
+ghost use Rattle.flash_put.specs.Appending.{Appends};
 ghost use Rattle.log_codec.specs.Header.{magic};
 ghost use Rattle.log_codec.specs.Spelling as spelling;
 ghost use Rattle.log_codec.specs.Writable.{OpCanBeWritten, OpsCanBeWritten, BodyCanBeWritten, CanBeWritten, HeaderCanBeWritten};
 
 use crate::entry::{Body, Entry, Family, Op};
 use crate::header::{ColumnSpec, Header, MAGIC};
-use crate::put::{put_bytes, put_handle, put_u8, put_u16, put_u32, put_u64};
 use crate::sizes::payload_len;
+use flash_put::{put_bytes, put_i64, put_u8, put_u16, put_u32, put_u64};
 use std::alloc::AllocError;
 
 /// Writes a log's header at the end of `into`: `FLASHLOG`, the version 1 in 2 bytes, the table in
@@ -46,7 +46,7 @@ pub fn write_frame(entry: &Entry, into: &mut Vec<u8>) -> Result<(), AllocError>
     written
 }
 
-#[tactic(auto, using(crate::proofs::Appending::kept), unfolding(crate::specs::Spelling::frame))]
+#[tactic(auto, using(flash_put::proofs::Appending::kept), unfolding(crate::specs::Spelling::frame))]
 fn put_frame(entry: &Entry, into: &mut Vec<u8>) -> Result<(), AllocError>
     requires { CanBeWritten entry.now }
     ensures { Appends result into.old.items (spelling.frame entry.now) into.new.items }
@@ -55,7 +55,7 @@ fn put_frame(entry: &Entry, into: &mut Vec<u8>) -> Result<(), AllocError>
     put_payload(entry, into)
 }
 
-#[tactic(auto, using(crate::proofs::Appending::kept), unfolding(crate::specs::Spelling::payload))]
+#[tactic(auto, using(flash_put::proofs::Appending::kept), unfolding(crate::specs::Spelling::payload))]
 fn put_payload(entry: &Entry, into: &mut Vec<u8>) -> Result<(), AllocError>
     requires { BodyCanBeWritten entry.now.body }
     ensures { Appends result into.old.items (spelling.payload entry.now) into.new.items }
@@ -73,14 +73,14 @@ fn put_header(header: &Header, into: &mut Vec<u8>) -> Result<(), AllocError>
     put_table(header.table, header.columns.as_slice(), into)
 }
 
-#[tactic(auto, using(crate::proofs::Appending::kept))]
+#[tactic(auto, using(flash_put::proofs::Appending::kept))]
 fn put_table(table: i64, columns: &[ColumnSpec], into: &mut Vec<u8>) -> Result<(), AllocError>
     requires { length columns.now ≤ 64 }
     ensures { Appends result into.old.items (to_be_bytes w64 magic ++ (to_be_bytes w16 1 ++ (spelling.handle table ++ (to_be_bytes w16 (length columns.now) ++ flat_map spelling.column columns.now)))) into.new.items }
 {
     put_u64(MAGIC, into)?;
     put_u16(1, into)?;
-    put_handle(table, into)?;
+    put_i64(table, into)?;
     put_u16(columns.len() as u16, into)?;
     put_columns(columns, into)
 }
@@ -94,7 +94,7 @@ fn put_columns(columns: &[ColumnSpec], into: &mut Vec<u8>) -> Result<(), AllocEr
     Ok(())
 }
 
-#[tactic(auto, using(crate::proofs::Appending::kept))]
+#[tactic(auto, using(flash_put::proofs::Appending::kept))]
 fn put_column(column: &ColumnSpec, into: &mut Vec<u8>) -> Result<(), AllocError>
     ensures { Appends result into.old.items (spelling.column column.now) into.new.items }
 {
@@ -102,7 +102,7 @@ fn put_column(column: &ColumnSpec, into: &mut Vec<u8>) -> Result<(), AllocError>
     put_u8(column.kind, into)
 }
 
-#[tactic(auto, using(crate::proofs::Appending::kept))]
+#[tactic(auto, using(flash_put::proofs::Appending::kept))]
 fn put_epoch(conf_ver: u64, version: u64, into: &mut Vec<u8>) -> Result<(), AllocError>
     ensures { Appends result into.old.items (spelling.epoch conf_ver version) into.new.items }
 {
@@ -110,7 +110,7 @@ fn put_epoch(conf_ver: u64, version: u64, into: &mut Vec<u8>) -> Result<(), Allo
     put_u64(version, into)
 }
 
-#[tactic(auto, using(crate::proofs::Appending::kept))]
+#[tactic(auto, using(flash_put::proofs::Appending::kept))]
 fn put_high(end: Option<i64>, into: &mut Vec<u8>) -> Result<(), AllocError>
     ensures { Appends result into.old.items (spelling.high end) into.new.items }
 {
@@ -120,19 +120,19 @@ fn put_high(end: Option<i64>, into: &mut Vec<u8>) -> Result<(), AllocError>
     }
 }
 
-#[tactic(auto, using(crate::proofs::Appending::kept))]
+#[tactic(auto, using(flash_put::proofs::Appending::kept))]
 fn put_end(end: i64, into: &mut Vec<u8>) -> Result<(), AllocError>
     ensures { Appends result into.old.items (1 ∷ spelling.handle end) into.new.items }
 {
     put_u8(1, into)?;
-    put_handle(end, into)
+    put_i64(end, into)
 }
 
-#[tactic(auto, using(crate::proofs::Appending::kept))]
+#[tactic(auto, using(flash_put::proofs::Appending::kept))]
 fn put_range(low: i64, end: Option<i64>, into: &mut Vec<u8>) -> Result<(), AllocError>
     ensures { Appends result into.old.items (spelling.range low end) into.new.items }
 {
-    put_handle(low, into)?;
+    put_i64(low, into)?;
     put_high(end, into)
 }
 
@@ -152,7 +152,7 @@ fn put_byte(put: bool) -> u8
     if put { 1 } else { 2 }
 }
 
-#[tactic(auto, using(crate::proofs::Appending::kept))]
+#[tactic(auto, using(flash_put::proofs::Appending::kept))]
 fn put_value(put: bool, bytes: &[u8], into: &mut Vec<u8>) -> Result<(), AllocError>
     requires { length bytes.now < 2 ^ 32 }
     ensures { Appends result into.old.items (spelling.value put bytes.now) into.new.items }
@@ -164,7 +164,7 @@ fn put_value(put: bool, bytes: &[u8], into: &mut Vec<u8>) -> Result<(), AllocErr
     put_bytes(bytes, into)
 }
 
-#[tactic(auto, using(crate::proofs::Appending::kept), unfolding(crate::specs::Spelling::op))]
+#[tactic(auto, using(flash_put::proofs::Appending::kept), unfolding(crate::specs::Spelling::op))]
 fn put_op(op: &Op, into: &mut Vec<u8>) -> Result<(), AllocError>
     requires { OpCanBeWritten op.now }
     ensures { Appends result into.old.items (spelling.op op.now) into.new.items }
@@ -185,7 +185,7 @@ fn put_each(list: &[Op], into: &mut Vec<u8>) -> Result<(), AllocError>
     Ok(())
 }
 
-#[tactic(auto, using(crate::proofs::Appending::kept))]
+#[tactic(auto, using(flash_put::proofs::Appending::kept))]
 fn put_ops(list: &[Op], into: &mut Vec<u8>) -> Result<(), AllocError>
     requires { OpsCanBeWritten list.now }
     ensures { Appends result into.old.items (spelling.ops list.now) into.new.items }
@@ -222,7 +222,7 @@ fn put_body(body: &Body, into: &mut Vec<u8>) -> Result<(), AllocError>
     }
 }
 
-#[tactic(auto, using(crate::proofs::Appending::kept))]
+#[tactic(auto, using(flash_put::proofs::Appending::kept))]
 fn put_open(
     conf_ver: u64,
     version: u64,
@@ -237,7 +237,7 @@ fn put_open(
     put_range(low, high, into)
 }
 
-#[tactic(auto, using(crate::proofs::Appending::kept))]
+#[tactic(auto, using(flash_put::proofs::Appending::kept))]
 fn put_write(ops: &[Op], into: &mut Vec<u8>) -> Result<(), AllocError>
     requires { OpsCanBeWritten ops.now }
     ensures { Appends result into.old.items (2 ∷ spelling.ops ops.now) into.new.items }
@@ -246,17 +246,17 @@ fn put_write(ops: &[Op], into: &mut Vec<u8>) -> Result<(), AllocError>
     put_ops(ops, into)
 }
 
-#[tactic(auto, using(crate::proofs::Appending::kept))]
+#[tactic(auto, using(flash_put::proofs::Appending::kept))]
 fn put_split(at: i64, child: u32, into: &mut Vec<u8>) -> Result<(), AllocError>
     ensures { Appends result into.old.items (3 ∷ (spelling.handle at ++ to_be_bytes w32 child)) into.new.items }
 {
     put_u8(3, into)?;
-    put_handle(at, into)?;
+    put_i64(at, into)?;
     put_u32(child, into)
 }
 
 // A body that names the other region of a merge alone.
-#[tactic(auto, using(crate::proofs::Appending::kept))]
+#[tactic(auto, using(flash_put::proofs::Appending::kept))]
 fn put_merge(kind: u8, other: u32, into: &mut Vec<u8>) -> Result<(), AllocError>
     ensures { Appends result into.old.items (kind ∷ to_be_bytes w32 other) into.new.items }
 {
@@ -264,7 +264,7 @@ fn put_merge(kind: u8, other: u32, into: &mut Vec<u8>) -> Result<(), AllocError>
     put_u32(other, into)
 }
 
-#[tactic(auto, using(crate::proofs::Appending::kept))]
+#[tactic(auto, using(flash_put::proofs::Appending::kept))]
 fn put_install(
     conf_ver: u64,
     version: u64,

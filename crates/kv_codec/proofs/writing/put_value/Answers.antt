@@ -1,5 +1,5 @@
 use Rattle.std.proofs.Common.{◌∷◌, [], ◌++◌, length, ap, ◌∙◌}
-use Rattle.kv_codec.proofs.Appending.{more}
+use Rattle.flash_put.proofs.Appending.{more}
 use Rattle.kv_codec.proofs.writing.put_value.Goals as goal
 
 pub returns : goal.returns

@@ -1,6 +1,6 @@
 use Rattle.std.proofs.Common.{◌∷◌, []}
 use Rattle.std.specs.Int.{w32, to_be_bytes}
-use Rattle.log_codec.proofs.Appending.{more}
+use Rattle.flash_put.proofs.Appending.{more}
 use Rattle.log_codec.proofs.write.put_column.Goals as goal
 
 pub returns : goal.returns

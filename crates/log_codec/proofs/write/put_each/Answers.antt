@@ -2,7 +2,7 @@ use Rattle.std.proofs.lemmas.Result.{err_from_is_err_and}
 use Rattle.std.specs.List.{flat_map}
 use Rattle.std.proofs.Common.{take}
 use Rattle.log_codec.specs.Spelling as spelling
-use Rattle.log_codec.proofs.Appending.{kept}
+use Rattle.flash_put.proofs.Appending.{kept}
 use Rattle.log_codec.proofs.write.put_each.Goals as goal
 
 pub returns-in_err-put_op : goal.returns-in_err-put_op

@@ -1,5 +1,5 @@
 use Rattle.std.specs.Int.{w64, to_be_bytes}
-use Rattle.log_codec.proofs.Appending.{more}
+use Rattle.flash_put.proofs.Appending.{more}
 use Rattle.log_codec.proofs.write.put_epoch.Goals as goal
 
 pub returns : goal.returns

@@ -1,7 +1,7 @@
 use Rattle.std.proofs.Common.{length, ◌++◌, ap, ◌∙◌}
 use Rattle.std.specs.Int.{w32, to_be_bytes}
 use Rattle.log_codec.specs.Spelling as spelling
-use Rattle.log_codec.proofs.Appending.{more}
+use Rattle.flash_put.proofs.Appending.{more}
 use Rattle.log_codec.proofs.write.put_frame.Goals as goal
 
 pub returns : goal.returns

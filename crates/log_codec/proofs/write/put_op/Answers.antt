@@ -1,8 +1,8 @@
 use Rattle.std.proofs.Common.{◌≡◌, ◌∷◌, [], ◌++◌, length, List, ℕ, ap, subst, ◌∙◌}
 use Rattle.std.specs.Int.{w16, to_be_bytes}
-use Rattle.log_codec.specs.Appending.{Appends}
+use Rattle.flash_put.specs.Appending.{Appends}
 use Rattle.log_codec.specs.Spelling as spelling
-use Rattle.log_codec.proofs.Appending.{more}
+use Rattle.flash_put.proofs.Appending.{more}
 use Rattle.log_codec.proofs.write.put_op.Goals as goal
 
 pub returns : goal.returns

@@ -1,7 +1,7 @@
 use Rattle.std.proofs.Common.{◌∷◌, [], ◌++◌, SFits, w64}
 use Rattle.std.proofs.lemmas.Int.{to_z-of_z}
 use Rattle.log_codec.specs.Spelling as spelling
-use Rattle.log_codec.proofs.Appending.{more}
+use Rattle.flash_put.proofs.Appending.{more}
 use Rattle.log_codec.proofs.write.put_open.Goals as goal
 
 pub returns : goal.returns

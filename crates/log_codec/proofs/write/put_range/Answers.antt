@@ -1,11 +1,11 @@
 use Rattle.std.proofs.Common.{FitsSigned, w64, SFits}
 use Rattle.std.proofs.lemmas.Int.{to_z-of_z}
 use Rattle.log_codec.specs.Spelling as spelling
-use Rattle.log_codec.proofs.Appending.{more}
+use Rattle.flash_put.proofs.Appending.{more}
 use Rattle.log_codec.proofs.write.put_range.Goals as goal
 
 pub returns : goal.returns
 returns c =
     let fits : SFits w64 c.args.low = c.ranges.low in
-    let first = simp to_z-of_z at c.in_ok-put_handle.ensures in
-    more c.put_high.result c.args.into.now.items (spelling.handle c.args.low) (spelling.high c.args.end) c.put_handle.new.into.items c.put_high.new.into.items first c.put_high.ensures
+    let first = simp to_z-of_z at c.in_ok-put_i64.ensures in
+    more c.put_high.result c.args.into.now.items (spelling.handle c.args.low) (spelling.high c.args.end) c.put_i64.new.into.items c.put_high.new.into.items first c.put_high.ensures

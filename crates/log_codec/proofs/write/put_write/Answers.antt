@@ -1,6 +1,6 @@
 use Rattle.std.proofs.Common.{◌∷◌, []}
 use Rattle.log_codec.specs.Spelling as spelling
-use Rattle.log_codec.proofs.Appending.{more}
+use Rattle.flash_put.proofs.Appending.{more}
 use Rattle.log_codec.proofs.write.put_write.Goals as goal
 
 pub returns : goal.returns
