@@ -72,11 +72,11 @@ locked_lawful = record { schema = is_schema; writable = all-true (locked_by 0x50
 
 pub locks_are_in_the_way : LocksAreInTheWay
 unfolding readers
-locks_are_in_the_way = record { lawful = locked_lawful; at_7 = refl; at_8 = refl; of_read = refl; pessimistic = refl }
+locks_are_in_the_way = record { lawful = locked_lawful; at_7 = (refl, refl, refl); at_8 = refl; of_read = refl; pessimistic = refl }
 
 pub reads_wait : ReadsWait
 unfolding readers
-reads_wait = record { index = refl; mark = refl; at_mark = refl; settled = refl }
+reads_wait = record { index = refl; mark = refl; at_mark = refl; settled = (refl, refl, refl) }
 
 put_and_delete_fits : all_fit put_and_delete ≡ true
 unfolding readers

@@ -1,5 +1,5 @@
 -- Logs of one region, and what they show.
-use Rattle.std.specs.Prelude.{◌≡◌, ℕ, pos, Some, None, List, [], ◌∷◌, ◌++◌, codes}
+use Rattle.std.specs.Prelude.{◌≡◌, ℕ, pos, Some, None, List, [], ◌∷◌, ◌++◌, map, codes}
 use Rattle.column_block.specs.declared.cell.Cell.TheVariants as cell
 use Rattle.column_block.specs.declared.column.Bound.{Bound}
 use Rattle.flash_types.specs.declared.refusal.Refusal.TheVariants as refusal
@@ -77,7 +77,7 @@ locked_by kind = open_all ∷ writes 6 (lock_of (pos 5) (kind ∷ 2 ∷ 97 ∷ 8
 -- A lock for a put is in the way of reads from its start on, and no lock of another kind is. (Refused: that a pessimistic lock is in the way at 8, and that the lock for a put is at 7.)
 pub record LocksAreInTheWay : Type 0 where
   pub lawful : IsLawful (log_of (locked_by 0x50))
-  pub at_7 : refused (log_of (locked_by 0x50)) (ask_1 7 5) (first 2) 0 0 ≡ None
+  pub at_7 : IsRight (log_of (locked_by 0x50)) (ask_1 7 5) None (first 2) 0 0 (Answered (cut_1 6) [])
   pub at_8 : refused (log_of (locked_by 0x50)) (ask_1 8 5) (first 2) 0 0 ≡ Some (refusal.Locked 1 6 (pos 5) 8)
   pub of_read : refused (log_of (locked_by 0x4C)) (ask_1 8 5) (first 2) 0 0 ≡ None
   pub pessimistic : refused (log_of (locked_by 0x53)) (ask_1 8 5) (first 2) 0 0 ≡ None
@@ -97,7 +97,7 @@ pub record ReadsWait : Type 0 where
   pub index : refused (log_of three_entries) (ask_1 1 9) (first 3) 0 0 ≡ Some (refusal.NotYet 1 (Some 7) (wants.Index 9))
   pub mark : refused (log_of nine_puts) (ask_1 10 5) (first 5) 0 9 ≡ Some (refusal.NotYet 1 (Some 9) (wants.Mark 5 9))
   pub at_mark : refused (log_of nine_puts) (ask_1 10 5) (first 5) 0 5 ≡ None
-  pub settled : refused (log_of nine_puts) (ask_1 10 5) (first 10) 0 9 ≡ None
+  pub settled : IsRight (log_of nine_puts) (ask_1 10 5) None (first 10) 0 9 (Answered (cut_1 14) (map (λ (n : ℕ). five_ab_at (pos n)) (1 ∷ 2 ∷ 3 ∷ 4 ∷ 5 ∷ 6 ∷ 7 ∷ 8 ∷ 9 ∷ [])))
 
 abbrev pub put_and_delete : List Entry
 put_and_delete = open_all ∷ writes 6 (put_at (pos 7) 50 five_ab) ∷ writes 7 (delete_at (pos 7) 80) ∷ []
