@@ -11,6 +11,8 @@ use std::io::ErrorKind;
 pub struct Input {
     /// The path of the log. A missing one is the empty text.
     pub log: String,
+    /// The path of the script. A missing one is the empty text.
+    pub script: String,
     /// The words behind the three paths.
     pub words: WordList,
 }
@@ -18,12 +20,15 @@ pub struct Input {
 /// Reads the command line. One that isn't text has no words.
 pub fn read_input<R: Env + AllocGlobal>(rt: &R) -> Result<Input, AllocError> {
     let mut log = String::new(rt.alloc());
+    let mut script = String::new(rt.alloc());
     let mut words = Items::new(rt.alloc());
     match env::args(rt) {
         Ok(args) => {
             for (place, arg) in args.enumerate() {
                 if place == LOG {
                     log = arg;
+                } else if place == SCRIPT {
+                    script = arg;
                 } else if place > DIR {
                     let word = Word::from_slice(rt.alloc(), arg.as_bytes())?;
                     let Ok(()) = words.push(word) else {
@@ -38,10 +43,12 @@ pub fn read_input<R: Env + AllocGlobal>(rt: &R) -> Result<Input, AllocError> {
             }
         }
     }
-    Ok(Input { log, words })
+    Ok(Input { log, script, words })
 }
 
-// The places of the paths of the log and of the store's directory. The script's stands between.
+// The places of the paths of the log, of the script and of the store's directory.
 const LOG: usize = 1;
+
+const SCRIPT: usize = 2;
 
 const DIR: usize = 3;

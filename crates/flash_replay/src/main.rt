@@ -1,5 +1,6 @@
 //! `flash_replay LOG SCRIPT DIR WORD..`: a columnar learner replica of one table, over a log of
-//! committed region entries. The words are one command; `show N` prints the rows at timestamp N.
+//! committed region entries. The words are one command: `show N` prints the rows at timestamp N, and
+//! `check` how many entries the log has and how many reads the script.
 #![tactic(auto)]
 
 mod input;
@@ -28,6 +29,7 @@ fn run<R: Files + Env + Print + AllocGlobal>(rt: &R) -> u8 {
 
 fn run_on<R: Files + Print + AllocGlobal>(rt: &R, input: &Input) -> u8 {
     let mut log = HostSource::new(fs::open(rt, input.log.as_str()).ok());
+    let mut script = HostSource::new(fs::open(rt, input.script.as_str()).ok());
     let mut out = HostSink::new(io::writer(rt));
-    replay(rt, &input.words, &mut log, &mut out)
+    replay(rt, &input.words, &mut log, &mut script, &mut out)
 }

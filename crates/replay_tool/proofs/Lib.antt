@@ -1,4 +1,3 @@
-pub mod Numbers
 pub mod Knowing
 pub mod Clearing
 pub mod Files

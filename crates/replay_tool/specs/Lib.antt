@@ -3,5 +3,4 @@ pub mod Logs
 pub mod Causes
 pub mod Folds
 pub mod Texts
-pub mod Words
 pub mod Runs

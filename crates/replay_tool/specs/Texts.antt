@@ -19,3 +19,7 @@ pub record Shows (ts : ℕ) (bytes text : List ℕ) : Type 0 where
   pub log : Log
   pub file : IsLogFile bytes log
   pub is : text ≡ rows_text (rows_at_end log ts)
+
+-- how many entries the log has, and how many reads the script
+unfoldable pub check_text : ℕ → ℕ → List ℕ
+check_text entries reads = (codes "ok " ++ decimal entries) ++ (codes " entries " ++ decimal reads) ++ codes " reads\n"

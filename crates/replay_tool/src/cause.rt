@@ -96,7 +96,8 @@ fn state_of(state: RegionState) -> &'static [u8]
     }
 }
 
-fn push_number(
+/// Adds a word, and a number in decimal.
+pub fn push_number(
     alloc: Global,
     word: &[u8],
     number: u64,

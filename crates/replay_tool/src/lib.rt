@@ -2,15 +2,16 @@
 #![tactic(auto)]
 
 mod cause;
+mod check;
 mod clear;
 mod fold;
 mod log;
+mod refuse;
 mod rows;
 mod run;
 mod show;
 mod status;
 mod value;
-mod words;
 
 pub use run::replay;
 

@@ -6,6 +6,7 @@ use std::alloc::Global;
 use std::process::Abort;
 use std::test::*;
 
+mod check;
 mod logs;
 
 use logs::{
@@ -20,6 +21,13 @@ fn words(alloc: Global, texts: &[&str]) -> Result<WordList, Fail> {
         list.push(word).ok().ok_or("room for a word")?;
     }
     Ok(list)
+}
+
+// A script's source of which each read that is made fails.
+fn unread(alloc: Global) -> Result<MemSource, Fail> {
+    let mut script = MemSource::new(alloc, Vec::new(alloc));
+    script.set_failing(vec![in alloc; 1]?);
+    Ok(script)
 }
 
 #[derive(Clone, Copy)]
@@ -224,7 +232,8 @@ fn run<R: AllocGlobal + Abort>(rt: &R, case: &Case, log: &[u8]) -> Result<(), Fa
     if let Some(call) = case.failing_write {
         out.set_failing(vec![in rt.alloc(); call]?);
     }
-    let status = replay(rt, &words, &mut log, &mut out);
+    let mut script = unread(rt.alloc())?;
+    let status = replay(rt, &words, &mut log, &mut script, &mut out);
     assert_eq!(rt; status, case.status, "{}", case.name);
     assert_eq!(rt; out.as_slice(), case.text.as_bytes(), "{}", case.name);
     Ok(())
@@ -478,7 +487,8 @@ fn show<R: AllocGlobal + Abort>(
     let words = words(rt.alloc(), &["show", ts])?;
     let mut log = MemSource::new(rt.alloc(), log);
     let mut out = MemSink::new(rt.alloc(), 1000).ok().ok_or("room")?;
-    let found = replay(rt, &words, &mut log, &mut out);
+    let mut script = unread(rt.alloc())?;
+    let found = replay(rt, &words, &mut log, &mut script, &mut out);
     assert_eq!(rt; out.as_slice(), text, "{}", name);
     assert_eq!(rt; found, status, "{}", name);
     Ok(())

@@ -1,1 +1,7 @@
 pub mod Texts
+pub mod Replies
+pub mod Words
+pub mod Reading
+pub mod Scripts
+pub mod Misfits
+pub mod Refusals

@@ -3,6 +3,7 @@ ghost use Rattle.std.specs.Prelude.{◌≡◌, ◌++◌, ◌<◌, codes, OnOk, O
 ghost use Rattle.column_block.specs.declared.cell.Cell.{Cell};
 ghost use Rattle.tool_text.specs.Texts.{line, cells_text, cell_text, hex, hex_digit, Begins};
 
+use crate::push::push;
 use column_block::{Cell, Memory, Row};
 use itoa::Buffer;
 
@@ -73,16 +74,6 @@ fn push_bytes(bytes: &[u8], into: &mut Vec<u8>) -> Result<(), Memory>
         push(into, &[hex_digit(*byte / 16), hex_digit(*byte % 16)])?;
     }
     Ok(())
-}
-
-fn push(into: &mut Vec<u8>, text: &[u8]) -> Result<(), Memory>
-    ensures ok { OnOk result (into.new.items ≡ into.old.items ++ text.now) }
-    ensures err { OnErr result (into.new.items ≡ into.old.items) }
-{
-    match into.extend_from_slice(text) {
-        Ok(()) => Ok(()),
-        Err(_) => Err(Memory),
-    }
 }
 
 fn hex_digit(n: u8) -> u8

@@ -1,4 +1,8 @@
 // Printed rows.
+mod reply;
+mod script;
+mod words;
+
 use crate::print_row;
 use column_block::{Cell, CellBytes, Cells, Row};
 use std::test::Fail;

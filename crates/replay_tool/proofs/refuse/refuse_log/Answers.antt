@@ -1,7 +1,7 @@
 use Rattle.std.proofs.Common.{subst, ap, ◌∙◌, ◌++◌}
 use Rattle.replay_tool.specs.Causes.{refusal_text}
 use Rattle.replay_tool.specs.Runs.{Writes, writing}
-use Rattle.replay_tool.proofs.run.refuse_log.Goals as goal
+use Rattle.replay_tool.proofs.refuse.refuse_log.Goals as goal
 
 pub returns-in-Ok : goal.returns-in-Ok
 returns-in-Ok g c =
