@@ -49,7 +49,7 @@ append_twice : {X : Type 0} (xs ys zs : List X) → (xs ++ ys) ++ zs ≡ xs ++ (
 append_twice [] ys zs = refl
 append_twice (x ∷ xs) ys zs = ap (λ rest. x ∷ rest) (append_twice xs ys zs)
 
-no_more : (p : ℕ) (cs : List Commit) → HasMore p cs cs
+pub no_more : (p : ℕ) (cs : List Commit) → HasMore p cs cs
 no_more p cs = record { more = []; is = append_nil cs; theirs = All-nil (λ (c : Commit). c.position ≡ p) }
 
 more_twice : (p : ℕ) (a b c : List Commit) → HasMore p a b → HasMore p b c → HasMore p a c

@@ -72,7 +72,7 @@ module _ (log : Log) (h : ℤ) (p : ℕ) where
     same k h e = grind (arith, ints)
 
     module _ (e : Entry) (is : slice_get log.entries p ≡ Some e) where
-      elsewhere : (other : HandleRange) → range_of (region (at log p).regions e.region) ≡ Some other → (k : ℤ) → holds other k ≡ true → itself k ≡ false
+      pub elsewhere : (other : HandleRange) → range_of (region (at log p).regions e.region) ≡ Some other → (k : ℤ) → holds other k ≡ true → itself k ≡ false
       elsewhere other there k inside = by (int_eq k h) refl
         where
           by : (b : Bool) → int_eq k h ≡ b → int_eq k h ≡ false
@@ -88,7 +88,7 @@ module _ (log : Log) (h : ℤ) (p : ℕ) where
           unborn : region (at log p).regions e.region ≡ Unborn
           unborn = is_unborn_is (region (at log p).regions e.region) (tested (at log p).regions e.region is_unborn (sym (ap (λ b. region_fault (at log p).regions e.region (cond b is_unborn is_live)) (makes e.body conf_ver version low high ops is_body)) ∙ (head_next log p e is lawful).own))
 
-      not_born : (conf_ver version : ℕ) (low : ℤ) (high : Option ℤ) (ops : List Op) → e.body ≡ body.Install conf_ver version low high ops → (k : ℤ) → holds (record { low = low; high = high }) k ≡ true → itself k ≡ false
+      pub not_born : (conf_ver version : ℕ) (low : ℤ) (high : Option ℤ) (ops : List Op) → e.body ≡ body.Install conf_ver version low high ops → (k : ℤ) → holds (record { low = low; high = high }) k ≡ true → itself k ≡ false
       not_born conf_ver version low high ops is_body k inside = by (int_eq k h) refl
         where
           by : (b : Bool) → int_eq k h ≡ b → int_eq k h ≡ false
@@ -221,11 +221,11 @@ module _ (log : Log) (lawful : IsLawful log) (h : ℤ) where
       by (body.Write ops) m = absurd (true≢false (sym m))
       by body.Empty m = absurd (true≢false (sym m))
 
-  held_still : (n : ℕ) (e : Entry) → slice_get log.entries n ≡ Some e → (y : ℕ) → acts_on y e ≡ false → owns (at log (suc n)).regions y h ≡ true → owns (at log n).regions y h ≡ true
+  pub held_still : (n : ℕ) (e : Entry) → slice_get log.entries n ≡ Some e → (y : ℕ) → acts_on y e ≡ false → owns (at log (suc n)).regions y h ≡ true → owns (at log n).regions y h ≡ true
   held_still n e is y apart after = sym (ap (λ s. owned s h) (ap (λ regions. region regions y) (regions_next log n e is) ∙ not_acted (at log n).regions e y apart)) ∙ after
 
   -- where a region that an entry doesn't act on has the handle, the entry doesn't touch it
-  unmoved : (n : ℕ) (e : Entry) → slice_get log.entries n ≡ Some e → (y : ℕ) → acts_on y e ≡ false → owns (at log (suc n)).regions y h ≡ true → touches log h n ≡ true → ⊥
+  pub unmoved : (n : ℕ) (e : Entry) → slice_get log.entries n ≡ Some e → (y : ℕ) → acts_on y e ≡ false → owns (at log (suc n)).regions y h ≡ true → touches log h n ≡ true → ⊥
   unmoved n e is y apart after t = by (touched_by log h n t)
     where
       some_is : {a b : Entry} → Some a ≡ Some b → a ≡ b

@@ -1,0 +1,56 @@
+-- What applying an entry adds to a replica's files and clears there.
+use Rattle.std.specs.Prelude.{ℕ, suc, ℤ, Bool, false, Option, Some, None, List, [], ◌∷◌, ◌++◌, ◌==◌, filter, map, slice_get, int_le, if◌then◌else◌}
+use Rattle.column_block.specs.declared.cell.Version.{Version}
+use Rattle.flash_types.specs.Ranges.{holds}
+use Rattle.flash_types.specs.declared.range.HandleRange.{HandleRange}
+use Rattle.log_codec.specs.declared.entry.Body.{Body}
+use Rattle.log_codec.specs.declared.entry.Body.TheVariants as body
+use Rattle.committed_log.specs.Log.{Log, at}
+use Rattle.committed_log.specs.Regions.{region, range_of}
+use Rattle.committed_log.specs.declared.store.Commit.{Commit}
+use Rattle.good_replica.specs.Trail.{Segment, DeltaFile, Puts, Clears}
+use Rattle.good_replica.specs.Versions.{version_of}
+
+-- The versions that an entry adds: of the commits that carry its position, in the order of its ops.
+abbrev pub added : Log → ℕ → List Version
+added log p = map (version_of log.schema) (filter (λ (c : Commit). c.position == p) (at log (suc p)).commits)
+
+-- The handles whose older versions it takes away: its region's for a Remove, its own range's for an Install.
+abbrev pub clearing_of : Option HandleRange → Body → Option HandleRange
+clearing_of there body.Remove = there
+clearing_of there (body.Install conf_ver version low high ops) = Some (record { low = low; high = high })
+clearing_of there _ = None
+
+abbrev pub clearing : Log → ℕ → Option HandleRange
+clearing log p = elim (slice_get log.entries p) [ None ↦ None | Some e ↦ clearing_of (range_of (region (at log p).regions e.region)) e.body ]
+
+abbrev pub holds_some : Option HandleRange → ℤ → Bool
+holds_some None h = false
+holds_some (Some range) h = holds range h
+
+-- ---- files, clipped to a segment
+
+abbrev pub lower_end : Option ℤ → Option ℤ → Option ℤ
+lower_end None b = b
+lower_end (Some a) None = Some a
+lower_end (Some a) (Some b) = Some (if int_le a b then a else b)
+
+-- the handles that both ranges hold
+abbrev pub common : HandleRange → HandleRange → HandleRange
+common a b = record { low = if int_le a.low b.low then b.low else a.low; high = lower_end a.high b.high }
+
+-- what a file says of the handles of a range
+abbrev pub clipped : HandleRange → DeltaFile → DeltaFile
+clipped range (Puts versions) = Puts (filter (λ (v : Version). holds range v.handle) versions)
+clipped range (Clears other) = Clears (common range other)
+
+abbrev pub with_file : Segment → DeltaFile → Segment
+with_file s f = record s { delta = s.delta ++ f ∷ [] }
+
+-- A segment after an entry: the entry's delete-range and then its versions come last in the delta, both clipped to the segment. A file that says nothing may be left out: no trail has it.
+abbrev pub cleared_by : Option HandleRange → Segment → Segment
+cleared_by None s = s
+cleared_by (Some range) s = with_file s (clipped s.range (Clears range))
+
+abbrev pub absorbed : Option HandleRange → List Version → Segment → Segment
+absorbed range versions s = with_file (cleared_by range s) (clipped s.range (Puts versions))
