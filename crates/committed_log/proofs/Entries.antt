@@ -9,7 +9,7 @@ use Rattle.committed_log.specs.Regions.{regions_after}
 use Rattle.committed_log.specs.Store.{Store, empty, after_entry, after_from}
 use Rattle.committed_log.proofs.Faults.{both_none, IsFine, head_is_fine}
 
-none_of_nil : {X : Type 0} (p : ℕ) → slice_get {X = X} [] p ≡ None
+pub none_of_nil : {X : Type 0} (p : ℕ) → slice_get {X = X} [] p ≡ None
 none_of_nil zero = refl
 none_of_nil (suc p) = refl
 

@@ -14,6 +14,8 @@ pub mod Local
 pub mod Ranks
 pub mod Places
 pub mod Longer
+pub mod NextPositions
+pub mod RepeatedPlaces
 mod Options
 pub mod Undo
 pub mod FamilySteps

@@ -12,7 +12,7 @@ use Rattle.committed_log.specs.Regions.{Unborn, region, acts_on}
 use Rattle.committed_log.specs.Store.{Store, store_of, empty, after_entry}
 use Rattle.committed_log.proofs.Positions.{Ends, found_is, find_is, last_ends, last_is, last_none}
 
-get_same : {X : Type 0} (xs ys : List X) (p : ℕ) → p < length xs → slice_get (xs ++ ys) p ≡ slice_get xs p
+pub get_same : {X : Type 0} (xs ys : List X) (p : ℕ) → p < length xs → slice_get (xs ++ ys) p ≡ slice_get xs p
 get_same [] ys p less = absurd (omega (arith, less))
 get_same (x ∷ xs) ys zero less = refl
 get_same (x ∷ xs) ys (suc p) less = get_same xs ys p (omega (arith, less))

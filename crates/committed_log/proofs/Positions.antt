@@ -7,7 +7,7 @@ use Rattle.committed_log.specs.Applied.{first_numbers, last}
 lt_or : (q n : ℕ) → q < suc n → (q < n) ⊎ (q ≡ n)
 lt_or q n h = grind arith
 
-find_push : (p : ℕ → Bool) (xs : List ℕ) (x : ℕ) → find p (xs ++ x ∷ []) ≡ option_or (find p xs) (cond (p x) (Some x) None)
+pub find_push : (p : ℕ → Bool) (xs : List ℕ) (x : ℕ) → find p (xs ++ x ∷ []) ≡ option_or (find p xs) (cond (p x) (Some x) None)
 find_push p [] x = refl
 find_push p (y ∷ ys) x = elim (p y) as (λ b. cond b (Some y) (find p (ys ++ x ∷ [])) ≡ option_or (cond b (Some y) (find p ys)) (cond (p x) (Some x) None)) [ true ↦ refl | false ↦ find_push p ys x ]
 

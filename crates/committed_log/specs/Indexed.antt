@@ -1,13 +1,29 @@
 -- What a `Logs` is seen as, and what its look-up tables hold.
+use Rattle.std.specs.Prelude.{◌≡◌, ℕ, ℤ, List}
+use Rattle.std.specs.BTreeMap.{get}
+use Rattle.column_block.specs.declared.column.Column.{Column}
+use Rattle.log_codec.specs.declared.entry.Entry.{Entry}
+use Rattle.committed_log.specs.Applied.{next_of}
 use Rattle.committed_log.specs.Lawful.{IsLawful}
 use Rattle.committed_log.specs.Log.{Log, end}
+use Rattle.committed_log.specs.Nexts.{index_cmp}
+use Rattle.committed_log.specs.Repeats.{AreRepeats}
 use Rattle.committed_log.specs.Tables.{Follows}
+use Rattle.committed_log.specs.declared.lookups.Lookups.{Lookups}
 use Rattle.committed_log.specs.declared.logs.Logs.TheInside.{Inside}
 
-abbrev pub log_of : Inside → Log
-log_of l = record { table = l.table; schema = l.schema; entries = l.entries.items }
+abbrev pub log_with : ℤ → List Column → List Entry → Log
+log_with table schema entries = record { table = table; schema = schema; entries = entries }
 
--- the log is lawful, and the tables are those of the store at its end
-pub record IsIndexed (l : Inside) : Type 0 where
-  pub lawful : IsLawful (log_of l)
-  pub follows : Follows l.tables (end (log_of l))
+abbrev pub log_of : Inside → Log
+log_of l = log_with l.table l.schema l.entries.items
+
+-- the log is lawful, the tables are those of the store at its end, and each next position and the places of the ops that repeat are noted
+pub record AreLookups (log : Log) (x : Lookups) : Type 0 where
+  pub lawful : IsLawful log
+  pub follows : Follows x.tables (end log)
+  pub nexts : (r i : ℕ) → get index_cmp x.nexts (r, i) ≡ next_of log r i
+  pub repeats : AreRepeats log x.repeats.items
+
+abbrev pub IsIndexed : Inside → Type 0
+IsIndexed l = AreLookups (log_of l) l.lookups

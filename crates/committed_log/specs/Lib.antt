@@ -18,3 +18,4 @@ pub mod Indexed
 pub mod ReadIndex
 pub mod Digest
 pub mod Owned
+pub mod Nexts

@@ -1,5 +1,5 @@
 -- Which ops say again what their row's last commit says, as where an entry is proposed twice. They change nothing.
-use Rattle.std.specs.Prelude.{ℕ, suc, ℤ, Bool, false, Some, None, Ok, Err, List, [], ◌∷◌, ◌++◌, slice_get, if◌then◌else◌, take}
+use Rattle.std.specs.Prelude.{◌≡◌, ◌<◌, length, ℕ, suc, ℤ, Bool, false, Some, None, Ok, Err, List, [], ◌∷◌, ◌++◌, slice_get, if◌then◌else◌, take}
 use Rattle.flash_types.specs.declared.range.HandleRange.{HandleRange}
 use Rattle.log_codec.specs.declared.entry.Body.{Body}
 use Rattle.log_codec.specs.declared.entry.Body.TheVariants as body
@@ -26,6 +26,22 @@ repeats_among table range p s ops k = elim (slice_get ops k) [ None ↦ false | 
 abbrev pub repeated_from : ℤ → HandleRange → ℕ → Store → ℕ → List Op → List ℕ
 repeated_from table range p s k [] = []
 repeated_from table range p s k (op ∷ ops) = (if repeats_op table range s op then k ∷ [] else []) ++ repeated_from table range p (after_op table range p s op) (suc k) ops
+
+-- those of an entry with this body, of region r
+abbrev pub repeated_in : ℤ → ℕ → Store → ℕ → Body → List ℕ
+repeated_in table p s r (body.Write ops) = elim (range_of (region s.regions r)) [ None ↦ [] | Some range ↦ repeated_from table range p s 0 ops ]
+repeated_in table p s r (body.Install conf_ver version low high ops) =
+    let range : HandleRange = record { low = low; high = high } in repeated_from table range p (cleared range s) 0 ops
+repeated_in table p s r _ = []
+
+-- those of the entry at position p
+abbrev pub repeated_at : Log → ℕ → List ℕ
+repeated_at log p = elim (slice_get log.entries p) [ None ↦ [] | Some e ↦ repeated_in log.table p (at log p) e.region e.body ]
+
+-- a list for each entry
+pub record AreRepeats (log : Log) (lists : List (List ℕ)) : Type 0 where
+  pub count : length lists ≡ length log.entries
+  pub each : (p : ℕ) → p < length log.entries → slice_get lists p ≡ Some (repeated_at log p)
 
 abbrev pub repeats_in : ℤ → ℕ → Store → ℕ → Body → ℕ → Bool
 repeats_in table p s r (body.Write ops) k = elim (range_of (region s.regions r)) [ None ↦ false | Some range ↦ repeats_among table range p s ops k ]

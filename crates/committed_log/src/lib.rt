@@ -13,6 +13,8 @@ mod digest;
 mod families;
 pub mod laws;
 mod logs;
+mod lookups;
+mod nexts;
 mod op;
 mod region;
 mod rows;

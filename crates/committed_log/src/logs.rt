@@ -1,17 +1,21 @@
 // A lawful log, and what admission looks up.
 ghost use Rattle.std.specs.Prelude.{◌≡◌, ◌<◌, ◌≤◌, ◌^◌, ◌-◌, [], length, IfOk, IfErr, OnErr, OnOk, Some, None, Err, slice_get, take, drop, fold};
+ghost use Rattle.committed_log.specs.Applied.{next_of};
 ghost use Rattle.committed_log.specs.Digest.{chain, extended_by};
 ghost use Rattle.committed_log.specs.Lawful.{IsLawful, IsRefusal, IsWritable, fault, pushed};
 ghost use Rattle.committed_log.specs.Log.{Log, end};
 ghost use Rattle.committed_log.specs.Numbers.{AreRoomy};
+ghost use Rattle.committed_log.specs.Repeats.{repeats};
 ghost use Rattle.committed_log.specs.declared.unlawful.Unlawful.TheVariants as unlawful;
 
 use crate::admit_head::MOST_ENTRIES;
 use crate::chains::extended_over;
 use crate::digest::begun;
-use crate::tables::{Tables, admit_entry, empty_tables};
+use crate::lookups::{Lookups, admit_next, empty_lookups, repeats_at};
+use crate::nexts::find_next;
 use crate::unlawful::Unlawful;
 use column_block::Schema;
+use flash_types::RegionId;
 use log_codec::Entry;
 use std::alloc::Global;
 use std::marker::Model;
@@ -23,7 +27,7 @@ pub struct Logs {
     table: i64,
     schema: Schema,
     entries: Vec<Entry>,
-    tables: Tables,
+    lookups: Lookups,
 }
 
 impl Model for Logs {
@@ -47,7 +51,7 @@ impl Logs {
             table,
             schema,
             entries: Vec::new(alloc),
-            tables: empty_tables(alloc),
+            lookups: empty_lookups(alloc),
         }
     }
 
@@ -107,8 +111,8 @@ impl Logs {
         if self.entries.reserve(1).is_err() {
             return Err(Unlawful::Memory);
         }
-        match admit_entry(
-            &mut self.tables,
+        match admit_next(
+            &mut self.lookups,
             self.table,
             &self.schema,
             &self.entries,
@@ -120,6 +124,25 @@ impl Logs {
             }
             Err(fault) => Err(fault),
         }
+    }
+
+    /// The position of the next entry that acts on a region, after the one that gave it this index:
+    /// that of its next index, or where the entry of this index prepared it, the commit that takes it
+    /// into its target. None where the log has no such entry, or never gave the region this index.
+    pub fn next_of(&self, region: RegionId, index: u64) -> Option<u64>
+        ensures { result ≡ next_of self.now region index }
+    {
+        find_next(&self.lookups.nexts, region, index)
+    }
+
+    /// Whether the op at a place of an entry is a record that admission passed because it says again
+    /// what its row's last commit says, as where a proposal was applied twice. It changes nothing.
+    pub fn repeats(&self, position: u64, op: u32) -> bool
+        requires { position < length self.now.entries }
+        ensures { result ≡ repeats self.now position op }
+    {
+        let places = repeats_at(&self.lookups, position);
+        places.as_slice().binary_search(&op).is_ok()
     }
 
     /// The digest of the log's header and its first `n` entries, each by its frame in a log file:

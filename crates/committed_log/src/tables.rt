@@ -1,5 +1,5 @@
 // The tables that admission looks up: the store at the log's end, as far as admission needs it.
-ghost use Rattle.std.specs.Prelude.{◌≡◌, ◌<◌, ◌^◌, ℤ, true, IfErr, OnErr, OnOk, None, length};
+ghost use Rattle.std.specs.Prelude.{[], ◌≡◌, ◌<◌, ◌^◌, ℤ, true, IfErr, OnErr, OnOk, None, length};
 ghost use Rattle.committed_log.specs.Admission.{fault_at, ops_fault_from};
 ghost use Rattle.committed_log.specs.Families.{Holds, Returns, IsSettled};
 ghost use Rattle.committed_log.specs.Lawful.{IsRefusal, IsWritable};
@@ -8,7 +8,7 @@ ghost use Rattle.flash_types.specs.Ranges.{holds};
 ghost use Rattle.committed_log.specs.Owned.{IsBare, LiesInRegions};
 ghost use Rattle.committed_log.specs.Regions.{regions_after};
 ghost use Rattle.committed_log.specs.Store.{Store, empty, after_ops, after_entry, cleared};
-ghost use Rattle.committed_log.specs.Repeats.{repeated_from};
+ghost use Rattle.committed_log.specs.Repeats.{repeated_from, repeated_in};
 ghost use Rattle.committed_log.specs.Tables.{Follows};
 ghost use Rattle.committed_log.specs.declared.unlawful.Unlawful.TheVariants as unlawful;
 
@@ -24,13 +24,11 @@ use log_codec::{Body, Entry, Op};
 use std::alloc::Global;
 use std::collections::BTreeMap;
 
-/// The regions and the families, as admission looks them up, and the places of the ops of the last
-/// entry that say again what their row's last commit says.
+/// The regions and the families, as admission looks them up.
 #[derive(Drop)]
 pub struct Tables {
     pub regions: Regions,
     pub families: Families,
-    pub repeated: Vec<u32>,
 }
 
 /// The tables of an empty log.
@@ -40,7 +38,6 @@ pub fn empty_tables(alloc: Global) -> Tables
     Tables {
         regions: BTreeMap::new(alloc),
         families: empty_families(alloc),
-        repeated: Vec::new(alloc),
     }
 }
 
@@ -59,6 +56,7 @@ fn admit_list(
     requires holds { Holds families.old store }
     requires settled { IsSettled families.old }
     requires count { length ops.now < 2 ^ 32 }
+    requires none { repeated.old.items ≡ [] }
     ensures ok { OnOk result (ops_fault_from table schema.now range position store 0 ops.now ≡ None) }
     ensures holds { OnOk result (Holds families.new (after_ops table range position store ops.now)) }
     ensures repeated { OnOk result (repeated.new.items ≡ repeated_from table range position store 0 ops.now) }
@@ -67,7 +65,6 @@ fn admit_list(
     ensures unchanged { OnErr result (Holds families.new store) }
     ensures settled { OnErr result (IsSettled families.new) }
 {
-    repeated.clear();
     match admit_ops(schema, table, range, position, families, ops, repeated) {
         Ok(()) => Ok(()),
         Err(fault) => {
@@ -108,11 +105,14 @@ fn admit_write(
     entry: &Entry,
     range: HandleRange,
     ops: &[Op],
+    repeated: &mut Vec<u32>,
 ) -> Result<(), Unlawful>
     ghost store: { Store }
     requires follows { Follows tables.old store }
     requires room { AreRoomy store.regions }
     requires count { length ops.now < 2 ^ 32 }
+    requires none { repeated.old.items ≡ [] }
+    ensures repeated { OnOk result (repeated.new.items ≡ repeated_from table range position store 0 ops.now) }
     ensures ok { OnOk result (ops_fault_from table schema.now range position store 0 ops.now ≡ None) }
     ensures follows { OnOk result (Follows tables.new (record (after_ops table range position store ops.now) { regions = regions_after store.regions entry.now })) }
     ensures err { IfErr result (IsRefusal (ops_fault_from table schema.now range position store 0 ops.now)) }
@@ -125,7 +125,7 @@ fn admit_write(
         position,
         &mut tables.families,
         ops,
-        &mut tables.repeated,
+        repeated,
     ) {
         return Err(fault);
     }
@@ -141,18 +141,21 @@ fn admit_install(
     entry: &Entry,
     range: HandleRange,
     ops: &[Op],
+    repeated: &mut Vec<u32>,
 ) -> Result<(), Unlawful>
     ghost store: { Store }
     requires follows { Follows tables.old store }
     requires room { AreRoomy store.regions }
     requires bare { (h : ℤ) → holds range h ≡ true → IsBare h store }
     requires count { length ops.now < 2 ^ 32 }
+    requires none { repeated.old.items ≡ [] }
+    ensures repeated { OnOk result (repeated.new.items ≡ repeated_from table range position (cleared range store) 0 ops.now) }
     ensures ok { OnOk result (ops_fault_from table schema.now range position (cleared range store) 0 ops.now ≡ None) }
     ensures follows { OnOk result (Follows tables.new (record (after_ops table range position (cleared range store) ops.now) { regions = regions_after store.regions entry.now })) }
     ensures err { IfErr result (IsRefusal (ops_fault_from table schema.now range position (cleared range store) 0 ops.now)) }
     ensures unchanged { OnErr result (Follows tables.new store) }
 {
-    admit_write(tables, table, schema, position, entry, range, ops)
+    admit_write(tables, table, schema, position, entry, range, ops, repeated)
 }
 
 // Admits an entry by which a region with these handles is gone.
@@ -173,19 +176,23 @@ fn admit_remove(tables: &mut Tables, entry: &Entry, range: HandleRange) -> Resul
     }
 }
 
-/// Admits the entry that is to follow these, and does it, or leaves the tables as they are.
+/// Admits the entry that is to follow these, and does it, or leaves the tables as they are. The
+/// places of its ops that say again what their row's last commit says are put into `repeated`.
 pub fn admit_entry(
     tables: &mut Tables,
     table: i64,
     schema: &Schema,
     earlier: &[Entry],
     entry: &Entry,
+    repeated: &mut Vec<u32>,
 ) -> Result<(), Unlawful>
     ghost store: { Store }
     requires follows { Follows tables.old store }
     requires room { AreRoomy store.regions }
     requires lies { LiesInRegions store }
     requires writable { IsWritable entry.now }
+    requires none { repeated.old.items ≡ [] }
+    ensures repeated { OnOk result (repeated.new.items ≡ repeated_in table (length earlier.now) store entry.now.region entry.now.body) }
     ensures ok { OnOk result (fault_at table schema.now (length earlier.now) store entry.now ≡ None) }
     ensures follows { OnOk result (Follows tables.new (after_entry table (length earlier.now) store entry.now)) }
     ensures err { IfErr result (IsRefusal (fault_at table schema.now (length earlier.now) store entry.now)) }
@@ -205,6 +212,7 @@ pub fn admit_entry(
                 entry,
                 range,
                 ops.as_slice(),
+                repeated,
             ),
             None => enter(tables, entry),
         },
@@ -221,6 +229,7 @@ pub fn admit_entry(
                 entry,
                 range,
                 ops.as_slice(),
+                repeated,
             )
         }
         Body::Remove => match range_of_region(region_of(&tables.regions, entry.region)) {

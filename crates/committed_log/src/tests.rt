@@ -7,6 +7,10 @@ use log_codec::{Body, FrameError, read_frame};
 use std::alloc::Global;
 use std::test::*;
 
+mod lines;
+mod lookups;
+mod refusals;
+
 // A log with an Open and a Write of one row, as a file has it.
 const LOG: [u8; 155] = [
     0x46, 0x4C, 0x41, 0x53, 0x48, 0x4C, 0x4F, 0x47, 0x00, 0x01, 0x00, 0x00, 0x00, 0x00, 0x00, 0x00,

@@ -21,7 +21,10 @@ admit_install-requires g c =
         c.requires.1.0,
         (
           subst (λ (low : ℤ). (h : ℤ) → holds (record { low = low; high = c.in-Install.high }) h ≡ true → IsBare h g.store) (sym (to_z-of_z w64 _ fits)) (bare_born g.store c.requires.1.1.0 (record { low = c.in-Install.low; high = c.in-Install.high }) birth),
-          subst (λ (ops : List Op). length ops < 2 ^ 32) (sym c.as_slice-in-Install.ensures) (subst BodyCanBeWritten c.in-Install.is c.requires.1.1.1.form.body).list.count,
+          (
+            subst (λ (ops : List Op). length ops < 2 ^ 32) (sym c.as_slice-in-Install.ensures) (subst BodyCanBeWritten c.in-Install.is c.requires.1.1.1.0.form.body).list.count,
+            c.requires.1.1.1.1,
+          ),
         ),
       ),
     )
