@@ -1,13 +1,13 @@
 -- What a read shows: Percolator's snapshot read.
-use Rattle.std.specs.Prelude.{ℕ, suc, ℤ, pos, Bool, false, ◌&&◌, Option, Some, None, Ok, Err, List, [], nat_le, int_le, if◌then◌else◌, option_map, slice_get, filter, find, flat_map}
+use Rattle.std.specs.Prelude.{ℕ, suc, ℤ, Bool, Option, Some, None, Ok, Err, List, [], nat_le, if◌then◌else◌, option_map, filter, find, flat_map}
 use Rattle.std.specs.Option.{option_and_then}
 use Rattle.std.specs.Ordering.{int_cmp}
 use Rattle.std.specs.BTreeMap.{insert_entry}
 use Rattle.std.specs.Map.{keys_of}
 use Rattle.std.specs.List.{fold, filter_map}
 use Rattle.column_block.specs.Cells.{cells_of}
+use Rattle.column_block.specs.Numbers.{has_bound}
 use Rattle.column_block.specs.declared.cell.Cell.{Cell}
-use Rattle.column_block.specs.declared.cell.Cell.TheVariants as cell
 use Rattle.column_block.specs.declared.cell.Row.{Row}
 use Rattle.column_block.specs.declared.column.Bound.{Bound}
 use Rattle.column_block.specs.declared.column.Column.{Column}
@@ -55,15 +55,9 @@ rows log cuts ts clip = filter_map (row_of_handle log cuts ts clip) (handles (fl
 
 -- ---- a filter on a number column
 
-abbrev pub number_of : Cell → Option ℤ
-number_of cell.Null = None
-number_of (cell.Int n) = Some n
-number_of (cell.Uint n) = Some (pos n)
-number_of (cell.Bytes bytes) = None
-
 -- whether the cell in the bound's column is a number from its low to its high end
 abbrev pub is_within : Bound → Row → Bool
-is_within bound row = elim (option_and_then number_of (slice_get row.cells bound.column)) [ None ↦ false | Some n ↦ int_le bound.low n && int_le n bound.high ]
+is_within bound row = has_bound bound row.cells
 
 -- the rows that a read with a bound keeps
 abbrev pub kept : Option Bound → List Row → List Row

@@ -1,6 +1,7 @@
 // The rows that a bound on a number column keeps.
 ghost use Rattle.std.specs.Prelude.{◌≡◌, IfOk, option_map, filter};
-ghost use Rattle.committed_log.specs.Reads.{number_of, is_within, kept};
+ghost use Rattle.column_block.specs.Numbers.{number_of};
+ghost use Rattle.committed_log.specs.Reads.{is_within, kept};
 ghost use Rattle.std.specs.Option.{option_and_then};
 
 use column_block::{Bound, Cell, Row};
