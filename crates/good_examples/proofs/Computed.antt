@@ -10,7 +10,7 @@ use Rattle.good_replica.specs.Check.{is_good, lists}
 use Rattle.good_replica.specs.Keep.{keep}
 use Rattle.good_replica.specs.Trail.{Segment}
 use Rattle.good_replica.proofs.Checking.{check_tells}
-use Rattle.good_examples.specs.Runs.{two_puts, handle_5, whole, both_puts, PutsStayGood, CrashKeepsMark, RemovalsStayGood, IsRefused, WrongReplicasAreRefused}
+use Rattle.good_examples.specs.Runs.{two_puts, handle_5, whole, both_puts, PutsStayGood, CrashKeepsMark, RemovalsStayGood, IsRefused, WrongReplicasAreRefused, SegmentsStayGood, CheckpointsStayGood, three_puts, handles_5_and_7, parted}
 
 two_fit : all_fit two_puts ≡ true
 unfolding readers
@@ -43,6 +43,20 @@ puts_stay_good = record {
 pub crash_keeps_mark : CrashKeepsMark
 unfolding readers
 crash_keeps_mark = record { flushed = refl; merged = refl; applied_again = refl }
+
+pub segments_stay_good : SegmentsStayGood
+unfolding readers
+segments_stay_good = record {
+  listed = refl;
+  applied = refl;
+  merged = refl;
+  split = refl;
+  good = (check_tells (log_of three_puts) (first 4) 4 0 handles_5_and_7 parted refl).yes refl;
+}
+
+pub checkpoints_stay_good : CheckpointsStayGood
+unfolding readers
+checkpoints_stay_good = record { listed = refl; checkpoint = refl; flushed = refl; opened = refl; stopped = refl; again = refl; unraised = refl }
 
 pub removals_stay_good : RemovalsStayGood
 unfolding readers

@@ -1,5 +1,5 @@
 -- Replicas of one table, as they go on, and three that are wrong.
-use Rattle.std.specs.Prelude.{◌≡◌, ℕ, zero, suc, ℤ, pos, Bool, true, false, None, Some, List, [], ◌∷◌, map, IsTrue}
+use Rattle.std.specs.Prelude.{◌≡◌, ℕ, zero, suc, ℤ, pos, Bool, true, false, None, Some, List, [], ◌∷◌, ◌++◌, map, IsTrue}
 use Rattle.column_block.specs.declared.cell.Cell.TheVariants as cell
 use Rattle.column_block.specs.declared.cell.Version.{Version}
 use Rattle.log_codec.specs.declared.entry.Entry.{Entry}
@@ -7,7 +7,7 @@ use Rattle.committed_log.specs.Lawful.{IsLawful}
 use Rattle.committed_log.specs.Log.{Log}
 use Rattle.row_store.specs.Logs.{log_of, open_all, writes, put_at, five_ab, one_null, least_handle, everything, first}
 use Rattle.row_store.specs.ManyRegions.{installed}
-use Rattle.row_store.specs.OneRegion.{put_and_delete}
+use Rattle.row_store.specs.OneRegion.{put_and_delete, nine_puts}
 use Rattle.good_replica.specs.Check.{is_good, lists}
 use Rattle.good_replica.specs.Effect.{absorbed, added, clearing}
 use Rattle.good_replica.specs.Good.{AreGood}
@@ -69,6 +69,56 @@ pub record CrashKeepsMark : Type 0 where
   pub flushed : is_good (log_of two_puts) (first 1) 3 0 handle_5 (whole [] (Puts both_puts ∷ [])) ≡ true
   pub merged : is_good (log_of two_puts) (first 1) 3 20 handle_5 (whole (keep 20 both_puts) []) ≡ true
   pub applied_again : is_good (log_of two_puts) (first 2) 3 0 handle_5 (whole [] (Puts both_puts ∷ Puts (full (pos 5) 10 ∷ []) ∷ [])) ≡ true
+
+-- ---- a delta merge, a split and a merge of segments
+
+abbrev pub three_puts : List Entry
+three_puts = open_all ∷ writes 6 (put_at (pos 5) 10 five_ab) ∷ writes 7 (put_at (pos 7) 10 five_ab) ∷ writes 8 (put_at (pos 5) 20 one_null) ∷ []
+
+abbrev pub handles_5_and_7 : List ℤ
+handles_5_and_7 = pos 5 ∷ pos 7 ∷ []
+
+abbrev pub on_5 : List Version
+on_5 = full (pos 5) 10 ∷ short (pos 5) 20 ∷ []
+
+abbrev pub on_7 : List Version
+on_7 = full (pos 7) 10 ∷ []
+
+-- those of the handles below 7 and of the others, each with its versions
+abbrev pub parted : List Segment
+parted = record { range = record { low = least_handle; high = Some (pos 7) }; stable = on_5; delta = [] } ∷ record { range = record { low = pos 7; high = None }; stable = on_7; delta = [] } ∷ []
+
+pub record SegmentsStayGood : Type 0 where
+  pub listed : lists (log_of three_puts) handles_5_and_7 (after (log_of three_puts) (whole [] []) 4) ≡ true
+  pub applied : is_good (log_of three_puts) (first 4) 0 0 handles_5_and_7 (after (log_of three_puts) (whole [] []) 4) ≡ true
+  pub merged : is_good (log_of three_puts) (first 4) 4 0 handles_5_and_7 (whole (on_5 ++ on_7) []) ≡ true
+  pub split : is_good (log_of three_puts) (first 4) 4 0 handles_5_and_7 parted ≡ true
+  pub good : AreGood (log_of three_puts) (first 4) 4 0 parted
+
+-- ---- a checkpoint, a flush behind it, and a crash
+
+abbrev pub to_9 : List ℕ
+to_9 = 1 ∷ 2 ∷ 3 ∷ 4 ∷ 5 ∷ 6 ∷ 7 ∷ 8 ∷ 9 ∷ []
+
+abbrev pub handles_to_9 : List ℤ
+handles_to_9 = map pos to_9
+
+-- the puts of these handles, in one file
+abbrev pub file_of : List ℕ → DeltaFile
+file_of handles = Puts (map (λ (n : ℕ). full (pos n) 10) handles)
+
+abbrev pub two_files : List DeltaFile
+two_files = file_of (1 ∷ 2 ∷ 3 ∷ []) ∷ file_of (4 ∷ 5 ∷ 6 ∷ 7 ∷ 8 ∷ []) ∷ []
+
+-- Nine rows are put. The checkpoint has the first four entries, the flush the first nine. A crash goes back to the checkpoint; the mark stays 9, the entries are applied again over the files, and at last the one that no file had.
+pub record CheckpointsStayGood : Type 0 where
+  pub listed : lists (log_of nine_puts) handles_to_9 (whole [] two_files) ≡ true
+  pub checkpoint : is_good (log_of nine_puts) (first 4) 4 0 handles_to_9 (whole [] (file_of (1 ∷ 2 ∷ 3 ∷ []) ∷ [])) ≡ true
+  pub flushed : is_good (log_of nine_puts) (first 9) 9 0 handles_to_9 (whole [] two_files) ≡ true
+  pub opened : is_good (log_of nine_puts) (first 4) 9 0 handles_to_9 (whole [] two_files) ≡ true
+  pub stopped : is_good (log_of nine_puts) (first 5) 9 0 handles_to_9 (whole [] (two_files ++ file_of (4 ∷ []) ∷ [])) ≡ true
+  pub again : is_good (log_of nine_puts) (first 10) 9 0 handles_to_9 (whole [] (two_files ++ map (λ (n : ℕ). file_of (n ∷ [])) (4 ∷ 5 ∷ 6 ∷ 7 ∷ 8 ∷ 9 ∷ []))) ≡ true
+  pub unraised : is_good (log_of nine_puts) (first 4) 4 0 handles_to_9 (whole [] two_files) ≡ false
 
 -- ---- a put, a removal of its region, and an install with another row
 

@@ -6,7 +6,10 @@
 mod runs;
 mod weakened;
 
-pub use runs::{crash_keeps_mark, puts_stay_good, removals_stay_good, wrong_replicas_are_refused};
+pub use runs::{
+    checkpoints_stay_good, crash_keeps_mark, puts_stay_good, removals_stay_good, segments_stay_good,
+    wrong_replicas_are_refused,
+};
 pub use weakened::{
     checks_need_their_handles, collections_need_the_safe_point, fronts_need_the_mark,
     lone_deletes_need_none_older, merges_need_clipping, merges_need_order,

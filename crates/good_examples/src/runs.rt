@@ -1,5 +1,5 @@
 // What a replica does, step by step, and what goes wrong.
-ghost use Rattle.good_examples.specs.Runs.{PutsStayGood, CrashKeepsMark, RemovalsStayGood, WrongReplicasAreRefused};
+ghost use Rattle.good_examples.specs.Runs.{PutsStayGood, CrashKeepsMark, SegmentsStayGood, CheckpointsStayGood, RemovalsStayGood, WrongReplicasAreRefused};
 
 /// Puts, a flush, a delta merge below the safe point and a checkpoint leave the replica good.
 pub fn puts_stay_good()
@@ -9,6 +9,16 @@ pub fn puts_stay_good()
 /// What was flushed past the applied entries stays good behind a raised mark.
 pub fn crash_keeps_mark()
     ensures { CrashKeepsMark }
+{}
+
+/// A delta merge, a split of the segment and a merge of its halves leave it good.
+pub fn segments_stay_good()
+    ensures { SegmentsStayGood }
+{}
+
+/// A crash goes back to the checkpoint, while the files of a later flush stay behind the mark.
+pub fn checkpoints_stay_good()
+    ensures { CheckpointsStayGood }
 {}
 
 /// A removal and an install leave it good, by their delete-ranges.
