@@ -1,0 +1,6 @@
+pub mod Faults
+pub mod Rows
+pub mod Counted
+pub mod Reading
+pub mod Spelling
+pub mod Laws

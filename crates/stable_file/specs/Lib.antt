@@ -1,0 +1,6 @@
+pub mod Steps
+pub mod Footer
+pub mod Packs
+pub mod Ranges
+pub mod Faults
+pub mod Opened

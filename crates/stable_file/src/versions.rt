@@ -1,0 +1,69 @@
+// The versions of one pack.
+ghost use Rattle.std.specs.Prelude.{◌≡◌, ◌+◌, ◌<◌, ◌^◌, length, slice_get, IfOk, IsTrue, Some};
+ghost use Rattle.pack_codec.specs.Faults as form;
+ghost use Rattle.stable_file.specs.Faults.{Gives};
+ghost use Rattle.stable_file.specs.Packs.{is_before, rise, versions_in, versions_at};
+
+use crate::fault::ReadError;
+use column_block::{Block, Schema, Version};
+use pack_codec::{FormError, read_pack};
+use std::alloc::Global;
+
+// By handle, and by timestamp where the handle is the same.
+fn is_before(v: &Version, w: &Version) -> bool
+    ensures { result ≡ is_before v.now w.now }
+{
+    if v.handle < w.handle {
+        return true;
+    }
+    v.handle == w.handle && v.ts < w.ts
+}
+
+// Whether there is a version, and each stands before the next.
+pub fn rise(block: &Block) -> bool
+    ensures exact { result ≡ rise block.now }
+    ensures some { IsTrue result → 0 < length block.now }
+{
+    if block.len() == 0 {
+        return false;
+    }
+    for i in 1..block.len() {
+        if !is_before(block.at(i - 1), block.at(i)) {
+            return false;
+        }
+    }
+    true
+}
+
+// The versions of the pack that stands from this place up to that end.
+#[tactic(auto, unfolding(crate::specs::Packs::versions_in))]
+pub fn versions_in(
+    alloc: Global,
+    bytes: &[u8],
+    end: u64,
+    at: u64,
+    schema: &Schema,
+) -> Result<Block, FormError>
+    ensures exact { form.Gives (λ block. block) result (versions_in end at schema.now bytes.now) }
+    ensures some { IfOk result (λ block. 0 < length block) }
+{
+    let block = read_pack(alloc, bytes, end, schema)?;
+    if !rise(&block) {
+        return Err(FormError::Damaged { at });
+    }
+    Ok(block)
+}
+
+/// The versions of the pack that the bytes are, all of them, which stands at the place `at` of its
+/// file.
+///
+/// `Damaged` names the first place in the file where the bytes aren't of the form, as
+/// `pack_codec::read_pack` says; and the pack's place where it has no version, or where its versions
+/// don't rise by handle and then timestamp. It never answers `Device`.
+pub fn pack_of(alloc: Global, bytes: &[u8], at: u64, schema: &Schema) -> Result<Block, ReadError>
+    requires { at + length bytes.now < 2 ^ 64 }
+    ensures { Gives (λ block. block) result (versions_at at schema.now bytes.now) }
+{
+    let block = versions_in(alloc, bytes, at + bytes.len() as u64, at, schema)?;
+    Ok(block)
+}
