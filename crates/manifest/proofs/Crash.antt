@@ -3,7 +3,8 @@ use Rattle.std.proofs.Common.{◌≡◌, inl, inr, ℕ, ◌+◌, List, [], ◌�
 use Rattle.std.proofs.lemmas.List.{take_at, drop_at, drop_more, drop-drop}
 use Rattle.std.proofs.lemmas.Bool.{cases_eq}
 use Rattle.flash_io.specs.Crash.{TornFile}
-use Rattle.manifest.specs.Gated.{record_of, overwritten, with_record, ClosedAt, IsCommitted, IsBeforeOrAfter}
+use Rattle.manifest_form.specs.Takes.{ClosedAt}
+use Rattle.manifest.specs.Gated.{record_of, overwritten, with_record, IsCommitted, IsBeforeOrAfter}
 
 some_same : {a b : List ℕ} → Some a ≡ Some b → a ≡ b
 some_same e = cc

@@ -1,8 +1,10 @@
-pub mod Loop
-pub mod Walking
-pub mod Again
-pub mod Grow
-pub mod SomeEdits
 pub mod Crash
 pub mod Run
 pub mod TwoWrites
+pub mod Runs
+pub mod Pieces
+pub mod Roots
+pub mod Listed
+pub mod Stays
+pub mod Making
+pub mod Created

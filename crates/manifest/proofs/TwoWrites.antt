@@ -7,7 +7,8 @@ use Rattle.flash_io.specs.declared.fault.DiskFault.{DiskFault}
 use Rattle.flash_io.specs.declared.fault.DiskFault.TheVariants as faults
 use Rattle.manifest.specs.declared.fault.CommitError.{CommitError}
 use Rattle.manifest.specs.declared.fault.CommitError.TheVariants as error
-use Rattle.manifest.specs.Gated.{commit_error, record_of, overwritten, with_record, ClosedAt, IsSteady, IsBeforeOrAfter}
+use Rattle.manifest_form.specs.Takes.{ClosedAt}
+use Rattle.manifest.specs.Gated.{commit_error, record_of, overwritten, with_record, IsSteady, IsBeforeOrAfter}
 use Rattle.manifest.proofs.Crash.{staged, torn_behind, torn_open, staged_is, opened, opened_is}
 
 pub fits_closed : (part content : List ℕ) (at : ℕ) → length part ≡ at → ClosedAt part content → at + 1 ≤ length content

@@ -1,11 +1,14 @@
 -- A gated file: a front, and records behind gates. A record counts where its gate is open, that is 1, and so are those before it.
-use Rattle.std.specs.Prelude.{◌≡◌, ◌≢◌, ◌⊎◌, ℕ, List, [], ◌∷◌, ◌++◌, ◌+◌, length, take, drop, Option, Some}
+use Rattle.std.specs.Prelude.{◌≡◌, ◌⊎◌, ℕ, List, [], ◌∷◌, ◌++◌, ◌+◌, length, take, drop, Option, Some}
 use Rattle.std.specs.Int.{to_be_bytes}
 use Rattle.std.proofs.Common.{w64}
 use Rattle.flash_io.specs.Image.{Image}
 use Rattle.flash_io.specs.Crash.{Durable}
 use Rattle.flash_io.specs.declared.fault.DiskFault.{DiskFault}
 use Rattle.flash_io.specs.declared.fault.DiskFault.TheVariants as fault
+use Rattle.manifest_form.specs.Takes.{ClosedAt}
+use Rattle.manifest.specs.declared.fault.ManifestError.{ManifestError}
+use Rattle.manifest.specs.declared.fault.ManifestError.TheVariants as refusal
 use Rattle.manifest.specs.declared.fault.CommitError.{CommitError}
 use Rattle.manifest.specs.declared.fault.CommitError.TheVariants as error
 
@@ -13,6 +16,11 @@ use Rattle.manifest.specs.declared.fault.CommitError.TheVariants as error
 abbrev pub commit_error : DiskFault → CommitError
 commit_error fault.Failed = error.Device
 commit_error fault.Memory = error.Memory
+
+-- the cause of a refusal by that of the call
+abbrev pub open_error : DiskFault → ManifestError
+open_error fault.Failed = refusal.Device
+open_error fault.Memory = refusal.Memory
 
 -- with these bytes in the place of those from at on
 abbrev pub overwritten : List ℕ → ℕ → List ℕ → List ℕ
@@ -25,13 +33,6 @@ record_of bytes = to_be_bytes w64 (length bytes) ++ bytes ++ 0 ∷ []
 -- one record more: an open gate, the length and the bytes
 abbrev pub with_record : List ℕ → List ℕ → List ℕ
 with_record part bytes = part ++ 1 ∷ to_be_bytes w64 (length bytes) ++ bytes
-
--- the committed part, and behind it a gate that isn't open and anything behind that
-pub record ClosedAt (part content : List ℕ) : Type 0 where
-  pub gate : ℕ
-  pub rest : List ℕ
-  pub is : content ≡ part ++ gate ∷ rest
-  pub closed : gate ≢ 1
 
 -- the file is there and has this committed part
 abbrev pub IsCommitted : List ℕ → Option (List ℕ) → Type 0

@@ -1,10 +1,7 @@
-pub mod Faults
-pub mod Fields
-pub mod Edits
 pub mod Gated
-pub mod States
-pub mod Walk
-pub mod Header
-pub mod Laws
-pub mod Example
-pub mod Spelling
+pub mod Stores
+pub mod Runs
+pub mod Found
+pub mod Appended
+pub mod Made
+pub mod Gates

@@ -1,7 +1,7 @@
 // Writes that are on the disk before they are answered.
 ghost use Rattle.std.specs.Prelude.{◌≡◌, ◌≤◌, ◌<◌, ◌+◌, ◌++◌, List, ℕ, length, take, drop, Some, OnOk, IsErrOf};
-ghost use Rattle.flash_io.specs.Image.{SameBut, Holds};
-ghost use Rattle.flash_io.specs.Crash.{Durable, OneFile, Elsewhere, TornFile, LeavesOnly, NoNew};
+ghost use Rattle.flash_io.specs.Image.{Image, SameBut, Holds};
+ghost use Rattle.flash_io.specs.Crash.{Created, Durable, OneFile, Elsewhere, TornFile, LeavesOnly, NoNew};
 ghost use Rattle.flash_io.specs.DiskFaults.{HasDiskCause};
 ghost use Rattle.manifest.specs.Gated.{overwritten};
 
@@ -36,6 +36,7 @@ pub fn stage<D: Disk>(disk: &mut D, file: FileId, bytes: &[u8]) -> Result<(), Di
     ensures created { OnOk result (Durable file bytes.now (D.may_leave disk.new)) }
     ensures read { D.tells → OnOk result (Holds (D.files disk.new) file bytes.now) }
     ensures any_moment { LeavesOnly D.moment D.left_since disk.old disk.new (Elsewhere file (D.may_leave disk.old)) }
+    ensures made { LeavesOnly D.moment D.left_since disk.old disk.new (λ c. (d : Image) × D.may_leave disk.old d × Created file (length bytes.now) d c) }
     ensures others { SameBut file (D.files disk.old) (D.files disk.new) }
     ensures memory { IsErrOf result DiskFault.Memory → (D.files disk.new ≡ D.files disk.old) × NoNew (D.may_leave disk.old) (D.may_leave disk.new) }
     ensures spared { D.never_fails disk.old → D.never_fails disk.new × (D.fault_count disk.new ≡ D.fault_count disk.old) }

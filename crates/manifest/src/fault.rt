@@ -1,21 +1,11 @@
 // Why a store is refused.
 ghost use Rattle.std.specs.Prelude.{◌≡◌};
-ghost use Rattle.manifest.specs.Gated.{commit_error};
+ghost use Rattle.manifest.specs.Gated.{commit_error, open_error};
 ghost use Rattle.manifest.specs.declared.fault.CommitError.TheVariants as errors;
-ghost use Rattle.manifest.specs.declared.fault.Fault.TheVariants as faults;
+ghost use Rattle.manifest.specs.declared.fault.ManifestError.TheVariants as refusals;
 
 use flash_io::{DiskFault, FileId};
 use std::alloc::{AllocError, AllocFailed};
-
-/// What is wrong with the bytes of one file.
-#[derive(Clone, Copy, Debug, PartialEq, Eq)]
-pub enum Fault {
-    /// What stands from this place on isn't of the form.
-    At { at: u64 },
-    /// A version of the form that isn't known.
-    Version { found: u16 },
-    Memory,
-}
 
 /// Why a store can't be opened.
 #[derive(Clone, Copy, Debug, PartialEq, Eq)]
@@ -41,14 +31,6 @@ pub enum CommitError {
     Memory,
 }
 
-impl From<AllocError> for Fault {
-    ghost from_gives = { λ _ e. e ≡ faults.Memory };
-
-    fn from(_error: AllocError) -> Fault {
-        Fault::Memory
-    }
-}
-
 impl From<AllocError> for CommitError {
     ghost from_gives = { λ _ e. e ≡ errors.Memory };
 
@@ -72,6 +54,25 @@ impl From<DiskFault> for CommitError {
         match fault {
             DiskFault::Failed => CommitError::Device,
             DiskFault::Memory => CommitError::Memory,
+        }
+    }
+}
+
+impl From<AllocError> for ManifestError {
+    ghost from_gives = { λ _ e. e ≡ refusals.Memory };
+
+    fn from(_error: AllocError) -> ManifestError {
+        ManifestError::Memory
+    }
+}
+
+impl From<DiskFault> for ManifestError {
+    ghost from_gives = { λ fault e. e ≡ open_error fault };
+
+    fn from(fault: DiskFault) -> ManifestError {
+        match fault {
+            DiskFault::Failed => ManifestError::Device,
+            DiskFault::Memory => ManifestError::Memory,
         }
     }
 }

@@ -18,7 +18,7 @@ use std::alloc::{AllocError, Global};
 const MOST: u64 = (1 << 63) - 1;
 
 #[tactic(auto, using(flash_put::proofs::Appending::kept))]
-fn put_record(bytes: &[u8], into: &mut Vec<u8>) -> Result<(), AllocError>
+pub fn put_record(bytes: &[u8], into: &mut Vec<u8>) -> Result<(), AllocError>
     ensures { Appends result into.old.items (to_be_bytes w64 (length bytes.now) ++ (bytes.now ++ 0 ∷ [])) into.new.items }
 {
     put_u64(bytes.len() as u64, into)?;
@@ -58,6 +58,7 @@ pub fn commit<D: Disk>(
     ensures others { SameBut file (D.files disk.old) (D.files disk.new) }
     ensures device { IsErrOf result CommitError.Device → Rose (D.fault_count disk.old) (D.fault_count disk.new) }
     ensures counted { D.fault_count disk.old ≤ D.fault_count disk.new }
+    ensures spared { D.never_fails disk.old → D.never_fails disk.new × (D.fault_count disk.new ≡ D.fault_count disk.old) }
     ensures readers { D.reader_fault_count disk.new ≡ D.reader_fault_count disk.old }
 {
     let behind = record_of(alloc, bytes)?;

@@ -1,115 +1,147 @@
+ghost use Rattle.std.specs.Prelude.{◌≡◌, true, OnOk, IfOk};
+ghost use Rattle.manifest.specs.Stores.{IsNew, IsKept};
+
 use super::*;
+use column_block::{Column, Kind, Schema};
 use flash_io::{Disk, DiskFault};
 use flash_mem::MemDisk;
-use flash_types::HandleRange;
+use manifest_form::{Edit, root_of};
 use std::alloc::{AllocError, Global};
 use std::test::*;
 
-const NAME: [u8; 4] = [0, 0, 0, 7];
+fn schema(alloc: Global) -> Result<Schema, AllocError> {
+    let column = Column {
+        id: 1,
+        kind: Kind::Int,
+    };
+    let columns = Vec::from_slice(alloc, &[column])?;
+    match Schema::new(columns) {
+        Ok(schema) => Ok(schema),
+        Err(_) => Err(AllocError),
+    }
+}
 
-// File 0 is made with a closed gate, and then a record is committed there: six calls of the disk.
-fn make(alloc: Global, disk: &mut MemDisk) -> Result<(), CommitError> {
-    match stage(disk, 0, &[0]) {
-        Ok(()) => commit(alloc, disk, 0, 0, &NAME),
-        Err(fault) => Err(CommitError::from(fault)),
+// Commits a safe point.
+fn point<D: Disk>(manifest: &mut Manifest, disk: &mut D, ts: u64) -> Result<(), CommitError>
+    requires steadied { manifest.old.steadied ≡ true }
+    requires kept { IsKept (D.may_leave disk.old) manifest.old }
+    ensures steadied { manifest.new.steadied ≡ true }
+    ensures kept { OnOk result (IsKept (D.may_leave disk.new) manifest.new) }
+{
+    manifest.commit(disk, &[Edit::SafePoint { ts }])
+}
+
+// Makes a store and commits the safe points 1, 2 and 3. It answers how many of the four were done.
+fn steps<D: Disk>(alloc: Global, disk: &mut D) -> u64
+    requires new { D.tells → IsNew (D.files disk.old) }
+{
+    let Ok(schema) = schema(alloc) else {
+        return 0;
+    };
+    let Ok(mut manifest) = create(alloc, disk, 9, &schema, [3; 32]) else {
+        return 0;
+    };
+    if point(&mut manifest, disk, 1).is_err() {
+        return 1;
+    }
+    if point(&mut manifest, disk, 2).is_err() {
+        return 2;
+    }
+    if point(&mut manifest, disk, 3).is_err() {
+        return 3;
+    }
+    4
+}
+
+// How many of the four steps an opening finds; 9 where it finds something else.
+fn found<D: Disk>(alloc: Global, disk: &mut D) -> u64 {
+    match open(alloc, disk) {
+        Ok(None) => 0,
+        Ok(Some(manifest)) => manifest.state().safe_point.saturating_add(1),
+        Err(_) => 9,
     }
 }
 
 // A disk of which this call fails.
-fn failing_at(alloc: Global, call: u64) -> Result<MemDisk, AllocError> {
+fn failing_at(alloc: Global, call: u64) -> Result<MemDisk, AllocError>
+    ensures { IfOk result (λ disk. IsNew (⟦<MemDisk as Disk>⟧.files disk)) }
+{
     let failing = Vec::from_slice(alloc, &[call])?;
     let mut disk = MemDisk::new(alloc);
     disk.set_failing(failing);
     Ok(disk)
 }
 
-// The bytes of file 0; none where it isn't there.
-fn root_bytes(alloc: Global, disk: &mut MemDisk) -> Result<Vec<u8>, DiskFault> {
-    let mut bytes = Vec::new(alloc);
-    let list = disk.list(alloc)?;
-    if !list.is_empty() && list[0] == 0 {
-        let _ = disk.read(0, 0, 100, &mut bytes)?;
+// The steps on a disk with this root, which has no record, and a stray file 1.
+fn steps_over<D: Disk>(alloc: Global, disk: &mut D, root: &[u8]) -> Result<u64, DiskFault> {
+    if !matches!(root_of(root), Ok(None)) {
+        return Ok(0);
     }
+    disk.create(0, root)?;
+    disk.create(1, &[7, 7, 7])?;
+    Ok(steps(alloc, disk))
+}
+
+// Stages file 2 on a new store, and reads it.
+fn staged<D: Disk>(alloc: Global, disk: &mut D) -> Result<Vec<u8>, CommitError>
+    requires new { D.tells → IsNew (D.files disk.old) }
+{
+    let schema = schema(alloc)?;
+    let manifest = create(alloc, disk, 9, &schema, [3; 32])?;
+    if manifest.state().next > 2 {
+        return Err(CommitError::Memory);
+    }
+    manifest.stage(disk, 2, &[1])?;
+    let mut bytes = Vec::new(alloc);
+    let _ = disk.read(2, 0, 10, &mut bytes)?;
     Ok(bytes)
 }
 
 #[test]
-fn a_record_that_was_committed_is_read_after_a_crash(rt: HostRuntime) {
-    for k in 0..8u64 {
-        let mut disk = MemDisk::new(rt.alloc());
-        make(rt.alloc(), &mut disk).expect(&rt, "room and no fault");
-        let mut left = disk.crash(k).expect(&rt, "room");
-        let bytes = root_bytes(rt.alloc(), &mut left).expect(&rt, "a read");
-        assert!(rt; matches!(root_of(bytes.as_slice()), Ok(Some(7))));
-    }
+fn a_staged_file_is_read_back(rt: HostRuntime) {
+    let mut disk = MemDisk::new(rt.alloc());
+    let bytes = staged(rt.alloc(), &mut disk).expect(&rt, "room and no fault");
+    assert!(rt; matches!(bytes.as_slice(), [1]));
+    assert_eq!(rt; found(rt.alloc(), &mut disk), 1);
 }
 
 #[test]
-fn a_commit_makes_four_calls(rt: HostRuntime) {
-    let mut disk = failing_at(rt.alloc(), 6).expect(&rt, "room");
-    assert!(rt; matches!(make(rt.alloc(), &mut disk), Err(CommitError::Device)));
-    let mut disk = failing_at(rt.alloc(), 7).expect(&rt, "room");
-    assert!(rt; make(rt.alloc(), &mut disk).is_ok());
-}
-
-#[test]
-fn a_commit_that_stops_at_any_call_leaves_all_or_nothing(rt: HostRuntime) {
-    for call in 3..7u64 {
+fn a_stop_at_any_call_leaves_the_old_state_or_the_new_one(rt: HostRuntime) {
+    for call in 1..23u64 {
         for k in 0..8u64 {
             let mut disk = failing_at(rt.alloc(), call).expect(&rt, "room");
-            assert!(rt; make(rt.alloc(), &mut disk).is_err());
+            let done = steps(rt.alloc(), &mut disk);
             let mut left = disk.crash(k).expect(&rt, "room");
-            let bytes = root_bytes(rt.alloc(), &mut left).expect(&rt, "a read");
-            let name = root_of(bytes.as_slice());
-            assert!(rt; matches!(name, Ok(None) | Ok(Some(7))));
+            let seen = found(rt.alloc(), &mut left);
+            assert!(rt; seen >= done);
+            assert!(rt; seen - done <= 1);
         }
     }
 }
 
-// A manifest of table 9 without columns, and its first record.
-fn manifest_bytes(alloc: Global) -> Result<Vec<u8>, AllocError> {
-    let mut record = Vec::new(alloc);
-    put_edits(first_edits(alloc)?.as_slice(), &mut record)?;
-    let header = [
-        b'F', b'L', b'M', b'F', 0, 1, 0, 0, 0, 0, 0, 0, 0, 9, 0, 0, 1,
-    ];
-    let size = (record.len() as u64).to_be_bytes();
-    let mut bytes = Vec::new(alloc);
-    bytes.extend_from_slice(&header)?;
-    bytes.extend_from_slice(&size)?;
-    bytes.extend_from_slice(record.as_slice())?;
-    bytes.extend_from_slice(&[0])?;
-    Ok(bytes)
-}
-
-fn first_edits(alloc: Global) -> Result<Edits, AllocError> {
-    let segment = StoredSegment {
-        id: 0,
-        range: HandleRange {
-            low: i64::MIN,
-            high: None,
-        },
-        stable: None,
-        delta: StoredFiles::new(alloc),
-    };
-    let mut edits = Vec::new(alloc);
-    edits.push(Edit::Next { file: 2 })?;
-    edits.push(Edit::Segment { segment })?;
-    edits.push(Edit::High {
-        entries: 0,
-        chain: [3; 32],
-    })?;
-    edits.push(Edit::SafePoint { ts: 7 })?;
-    Ok(Edits::from_vec(edits))
+#[test]
+fn making_a_store_takes_nine_calls_and_a_commit_four(rt: HostRuntime) {
+    for call in 1..23u64 {
+        let mut disk = failing_at(rt.alloc(), call).expect(&rt, "room");
+        let done = steps(rt.alloc(), &mut disk);
+        let wanted = if call < 10 { 0 } else { (call - 6) / 4 };
+        assert_eq!(rt; done, wanted);
+    }
 }
 
 #[test]
-fn edits_that_were_written_give_their_state(rt: HostRuntime) {
-    let bytes = manifest_bytes(rt.alloc()).expect(&rt, "room");
-    let store = manifest_of(rt.alloc(), 1, bytes.as_slice()).expect(&rt, "a manifest");
-    assert_eq!(rt; store.header.table, 9);
-    assert_eq!(rt; store.state.next, 2);
-    assert_eq!(rt; store.state.segments.len(), 1);
-    assert_eq!(rt; store.state.safe_point, 7);
-    assert!(rt; manifest_of(rt.alloc(), 2, bytes.as_slice()).is_err());
+fn a_half_made_root_is_made_whole(rt: HostRuntime) {
+    let roots: [&[u8]; 5] = [
+        &[],
+        &[0],
+        &[1],
+        &[9],
+        &[0, 1, 2, 3, 4, 5, 6, 7, 8, 9, 10, 11, 12, 13, 14],
+    ];
+    for root in roots {
+        let mut disk = MemDisk::new(rt.alloc());
+        let done = steps_over(rt.alloc(), &mut disk, root).expect(&rt, "room");
+        assert_eq!(rt; done, 4);
+        assert_eq!(rt; found(rt.alloc(), &mut disk), 4);
+    }
 }

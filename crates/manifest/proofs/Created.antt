@@ -1,0 +1,120 @@
+-- A store that is made.
+use Rattle.std.proofs.Common.{◌≡◌, ℕ, ℤ, ◌+◌, ◌<◌, ◌^◌, pos, List, [], ◌∷◌, ◌++◌, length, Option, Some, None, Ok, inl, inr, ⊎_elim, refl, sym, ap, ◌∙◌, subst, append_assoc, arith}
+use Rattle.std.specs.Prelude.{FitsSigned, Result, Err, OnOk}
+use Rattle.std.specs.List.{All, flat_map}
+use Rattle.std.specs.Int.{w64, to_be_bytes}
+use Rattle.flash_list.specs.Fields.{number_at}
+use Rattle.flash_io.specs.Image.{Image}
+use Rattle.flash_io.specs.Crash.{Durable, OneFile, Created}
+use Rattle.column_block.specs.declared.column.Column.{Column}
+use Rattle.column_block.specs.Schemas.{IsSchema}
+use Rattle.manifest_form.specs.declared.recover.Recovered.{Recovered}
+use Rattle.manifest_form.specs.Edits.{edits_of}
+use Rattle.manifest_form.specs.Spelling as spelling
+use Rattle.manifest_form.specs.Spelling.{EditFits, ColumnFits}
+use Rattle.manifest_form.specs.Walk.{root_step, manifest_step, manifest_of}
+use Rattle.manifest_form.specs.Takes.{ClosedAt, IsRoot, IsManifest, Closes}
+use Rattle.manifest_form.proofs.Again.{edits_again}
+use Rattle.manifest_form.proofs.HeaderAgain.{header_again}
+use Rattle.manifest_form.proofs.Fronts.{record_again}
+use Rattle.manifest_form.proofs.Taking.{none, more, reads}
+use Rattle.manifest.specs.declared.store.Manifest.{Manifest}
+use Rattle.manifest.specs.Gated.{with_record, IsSteady, IsBeforeOrAfter}
+use Rattle.manifest.specs.Stores.{IsNew, IsKept, has_of}
+use Rattle.manifest.specs.Made.{first_edits, new_store, Apart, NewOrMade}
+use Rattle.manifest.proofs.Making.{closed_root}
+use Rattle.manifest.proofs.Stays.{names_file}
+
+abbrev pub name : List ℕ
+name = 0 ∷ 0 ∷ 0 ∷ 1 ∷ []
+
+-- the root's first record names file 1
+named : (gate stop : ℕ) → root_step gate stop None name ≡ Ok (Some 1)
+unfolding number_at
+named gate stop = refl
+
+pub root_part : IsRoot 1 (with_record [] name)
+root_part =
+    let front = 1 ∷ to_be_bytes w64 4 ++ name in
+    more root_step (Some 4) 0 None None (Some 1) [] front name (none root_step (Some 4) 0 None) (record_again (Some 4) name (omega arith) refl) (named (0 + 0) (0 + 0 + length front))
+
+step_first : (chain bytes : List ℕ) → bytes ≡ flat_map spelling.edit (first_edits chain) → All EditFits (first_edits chain) → (gate stop : ℕ) → manifest_step 1 gate stop None bytes ≡ Ok (Some (new_store (pos 0) [] chain).state)
+unfolding manifest_step
+step_first chain bytes spelled fits gate stop =
+    let read : edits_of stop bytes ≡ Ok (first_edits chain) = ap (edits_of stop) spelled ∙ edits_again stop (first_edits chain) fits in
+    rw read refl
+
+-- the bytes of a new manifest are read as that
+pub first_read : (table : ℤ) (columns : List Column) (chain bytes record' : List ℕ) → FitsSigned w64 table → IsSchema columns → All ColumnFits columns → record' ≡ flat_map spelling.edit (first_edits chain) → All EditFits (first_edits chain) → length record' < 2 ^ 64
+    → bytes ≡ spelling.header table columns ++ 1 ∷ [] ++ (to_be_bytes w64 (length record') ++ (record' ++ 0 ∷ [])) → manifest_of 1 bytes ≡ Ok (new_store table columns chain)
+first_read table columns chain bytes record' table_fits schema columns_fit spelled fits sized is =
+    let front = spelling.header table columns in
+    let one = 1 ∷ to_be_bytes w64 (length record') ++ record' in
+    let has = new_store table columns chain in
+    let part : IsManifest 1 has (front ++ one) = record {
+      front = front;
+      records = one;
+      is = refl;
+      header = header_again table columns table_fits schema columns_fit;
+      takes = more (manifest_step 1) None (length front) None None (Some has.state) [] one record' (none (manifest_step 1) None (length front) None) (record_again None record' sized refl) (step_first chain record' spelled fits _ _);
+    } in
+    let shut : ClosedAt (front ++ one) bytes = record {
+      gate = 0;
+      rest = [];
+      is = is ∙ append_assoc front (1 ∷ []) (to_be_bytes w64 (length record') ++ (record' ++ 0 ∷ [])) ∙ ap (λ (l : List ℕ). front ++ 1 ∷ l) (sym (append_assoc (to_be_bytes w64 (length record')) record' (0 ∷ []))) ∙ sym (append_assoc front one (0 ∷ []));
+      closed = λ e. cc;
+    } in
+    reads 1 has (front ++ one) bytes part shut
+
+-- ---- images
+
+module _ (old mid : Image → Type 0) (bytes : List ℕ) (has : Recovered) (read : manifest_of 1 bytes ≡ Ok has) (apart : (c : Image) → mid c → Apart old c × IsNew c) (durable : Durable 1 bytes mid) where
+  one_is_not_zero : ◌≡◌ {A = ℕ} 1 0 → ⊥
+  one_is_not_zero e = absurd (cc e)
+
+  pub root_opened : (c : Image) → OneFile 0 mid (IsBeforeOrAfter [] name) c → NewOrMade old has c
+  root_opened c one =
+      let d = one.0.0 in
+      let was = (apart d one.0.1).0 in (
+        (was.0, was.1, λ file a b. one.0.2 file a ∙ was.2 file a b),
+        ⊎_elim
+            (λ before. inl (inr (before.0, before.1, closed_root before.0 before.2)))
+            (λ after. inr (record {
+              names = (after.0, after.1, names_file 1 13 after.0 (record { part = with_record [] name; size = refl; shut = after.2; holds = root_part }) (omega arith));
+              content = bytes;
+              is = one.0.2 1 one_is_not_zero ∙ durable d one.0.1;
+              reads = read;
+            })) one.1,
+      )
+
+-- the new manifest on its disk
+pub kept_new : (outcomes : Image → Type 0) (bytes : List ℕ) (m : Manifest) → m.file ≡ 1 → m.root_at ≡ 13 → Closes (IsManifest 1 (has_of m)) m.at bytes → IsSteady 0 (with_record [] name) outcomes → Durable 1 bytes outcomes → IsKept outcomes m
+kept_new outcomes bytes m file root_at closes steady durable = record {
+  root = steady.0;
+  root_closes = subst (λ n. Closes (IsRoot n) m.root_at steady.0) (sym file) (record { part = with_record [] name; size = sym root_at; shut = steady.1; holds = root_part });
+  root_held = steady.2;
+  content = bytes;
+  closes = subst (λ n. Closes (IsManifest n (has_of m)) m.at bytes) (sym file) closes;
+  held = subst (λ n. Durable n bytes outcomes) (sym file) durable;
+}
+
+-- nothing is committed while file 1 is made
+pub staged_new : (old mid : Image → Type 0) (n : ℕ) → IsSteady 0 [] mid → ((c : Image) → mid c → Apart old c × IsNew c) → (c : Image) → (d : Image) × mid d × Created 1 n d c → Apart old c × IsNew c
+staged_new old mid n steady apart c made =
+    let d = made.0 in
+    let was = (apart d made.1).0 in
+    let same : c 0 ≡ d 0 = made.2.0 0 (λ e. absurd (cc e)) in
+    ((was.0, was.1, λ file a b. made.2.0 file b ∙ was.2 file a b), inr (steady.0, same ∙ steady.2 d made.1, closed_root steady.0 steady.1))
+
+-- the root stays while file 1 is made
+pub root_stays : (mid new : Image → Type 0) (n : ℕ) → IsSteady 0 [] mid → ((c : Image) → new c → (d : Image) × mid d × Created 1 n d c) → IsSteady 0 [] new
+root_stays mid new n steady made = (steady.0, steady.1, λ c left. let from = made c left in from.2.0 0 (λ e. absurd (cc e)) ∙ steady.2 from.0 from.1)
+
+-- file 1 stays while the root is written
+pub one_stays : (mid new : Image → Type 0) (bytes : List ℕ) (P : Option (List ℕ) → Type 0) → Durable 1 bytes mid → ((c : Image) → new c → OneFile 0 mid P c) → Durable 1 bytes new
+one_stays mid new bytes P durable each c left = let one = each c left in one.0.2 1 (λ e. absurd (cc e)) ∙ durable one.0.0 one.0.1
+
+-- what holds whatever was answered holds where the answer is Ok
+pub ok_so : {X E P : Type 0} (r : Result X E) → P → OnOk r P
+ok_so (Ok x) p = p
+ok_so (Err e) p = tt

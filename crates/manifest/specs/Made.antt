@@ -1,0 +1,45 @@
+-- A store that is made.
+use Rattle.std.specs.Prelude.{◌≡◌, ◌≢◌, ◌⊎◌, ℕ, ℤ, ◌≤◌, true, List, [], ◌∷◌, length, None}
+use Rattle.flash_io.specs.Image.{Image, Holds}
+use Rattle.flash_io.specs.Crash.{Created, Torn}
+use Rattle.column_block.specs.declared.column.Column.{Column}
+use Rattle.manifest_form.specs.declared.state.State.{State}
+use Rattle.manifest_form.specs.declared.state.Edit.{Edit}
+use Rattle.manifest_form.specs.declared.state.Edit.TheVariants.{Next, Segment, High, SafePoint}
+use Rattle.manifest_form.specs.declared.recover.Recovered.{Recovered}
+use Rattle.manifest_form.specs.Example.{whole}
+use Rattle.manifest.specs.declared.store.Manifest.{Manifest}
+use Rattle.manifest.specs.Stores.{IsNew, HasStore, has_of}
+
+-- the first record: Next 2, one segment of all handles without files, nothing that may be in files, and no safe point
+abbrev pub first_edits : List ℕ → List Edit
+first_edits chain = Next 2 ∷ Segment (whole 0 []) ∷ High 0 chain ∷ SafePoint 0 ∷ []
+
+abbrev pub first_state : List ℕ → State
+first_state chain = record { next = 2; segments = whole 0 [] ∷ []; high = 0; chain = chain; safe_point = 0; regions = None }
+
+-- a new store of this table and these columns; the chain value is that of no entries
+abbrev pub new_store : ℤ → List Column → List ℕ → Recovered
+new_store table columns chain = record { header = record { table = table; columns = columns }; state = first_state chain }
+
+-- a new store in file 1
+pub record IsFresh (table : ℤ) (columns : List Column) (chain : List ℕ) (m : Manifest) : Type 0 where
+  pub file : m.file ≡ 1
+  pub has : has_of m ≡ new_store table columns chain
+  pub steadied : m.steadied ≡ true
+
+-- all files as they were; or file 0, which wasn't there, made with one byte at most; or a root of one byte at most torn in its first byte
+abbrev pub MadeReady : Image → (Image → Type 0) → Image → Type 0
+MadeReady files old c = (d : Image) × old d × (((file : ℕ) → c file ≡ d file) ⊎ (((files 0 ≡ None) × Created 0 1 d c) ⊎ (((root : List ℕ) × Holds files 0 root × (length root ≤ 1)) × Torn 0 0 1 d c)))
+
+-- nothing was committed in any image, and each has the root as the disk reads
+abbrev pub IsUnmade : Image → (Image → Type 0) → Type 0
+IsUnmade files outcomes = (c : Image) → outcomes c → IsNew c × (c 0 ≡ files 0)
+
+-- but for files 0 and 1 the image is an old one
+abbrev pub Apart : (Image → Type 0) → Image → Type 0
+Apart old c = (d : Image) × old d × ((file : ℕ) → file ≢ 0 → file ≢ 1 → c file ≡ d file)
+
+-- nothing was committed or the new store is there whole, and all other files are as they might have been
+abbrev pub NewOrMade : (Image → Type 0) → Recovered → Image → Type 0
+NewOrMade old has c = Apart old c × (IsNew c ⊎ HasStore c 1 has)

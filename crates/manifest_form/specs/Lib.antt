@@ -1,0 +1,11 @@
+pub mod Faults
+pub mod Fields
+pub mod Edits
+pub mod States
+pub mod Walk
+pub mod Header
+pub mod Laws
+pub mod Example
+pub mod Spelling
+pub mod Takes
+pub mod Roots
