@@ -1,0 +1,4 @@
+pub mod Files
+pub mod Handles
+pub mod Merges
+pub mod Puts

@@ -1,0 +1,16 @@
+//! An index over the versions of a delta, in order of handle and timestamp.
+#![tactic(auto)]
+
+mod gather;
+mod index;
+mod merge;
+
+pub use gather::IndexRow;
+pub use index::DeltaIndex;
+
+/// Memory ran out.
+#[derive(Clone, Copy, Debug, PartialEq, Eq)]
+pub struct Memory;
+
+#[cfg(test)]
+mod tests;
