@@ -66,7 +66,7 @@ pub fn maybe_number(
     }
 }
 
-/// The same of smaller numbers, where the field isn't there a number.
+/// The number of a field that fits 32 bits, or a number where it isn't there.
 #[tactic(auto, unfolding(crate::specs::Reading::field), using(crate::proofs::Failing::failing))]
 pub fn small_or(
     alloc: Global,
