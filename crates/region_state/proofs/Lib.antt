@@ -1,0 +1,6 @@
+pub mod Parting
+pub mod Planning
+pub mod Uniting
+pub mod Lying
+pub mod Settling
+pub mod Folds

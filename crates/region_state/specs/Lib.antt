@@ -1,0 +1,4 @@
+pub mod State
+pub mod Folding
+pub mod Standing
+pub mod Settling
