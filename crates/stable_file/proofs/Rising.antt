@@ -1,5 +1,5 @@
 -- Going over versions that rise.
-use Rattle.std.proofs.Common.{◌≡◌, ℕ, ◌+◌, ◌-◌, ◌≤◌, ◌<◌, Bool, true, false, List, [], ◌∷◌, length, drop, get_or, slice_get, Some, sym, ap, ◌∙◌, arith}
+use Rattle.std.proofs.Common.{◌≡◌, ℕ, suc, ◌+◌, ◌-◌, ◌≤◌, ◌<◌, Bool, true, false, List, [], ◌∷◌, length, take, drop, slice_range, get_or, slice_get, Some, sym, ap, ◌∙◌, arith}
 use Rattle.std.specs.Prelude.{◌&&◌}
 use Rattle.std.proofs.lemmas.List.{drop_all, drop_more}
 use Rattle.std.proofs.lemmas.Option.{slice_get-get_or}
@@ -42,12 +42,20 @@ all_rose (x ∷ xs) i total some e so_far =
 
 -- ---- ranges
 
-pub range_more : (column : ℕ) (xs : List Version) (i : ℕ) (v : Version) (range wider total : MinMax) → i < length xs → slice_get xs i ≡ Some v → wider ≡ with_cell range (cell_of column v) → range_with column range (drop i xs) ≡ total → range_with column wider (drop (i + 1) xs) ≡ total
-range_more column xs i v range wider total lt at is so_far =
-    ap (λ (r : MinMax). range_with column r (drop (i + 1) xs)) is ∙ sym (ap (range_with column range) (item_first xs i v lt at)) ∙ so_far
+range_first : (xs : List Version) (i to : ℕ) (v : Version) → i < to → i < length xs → slice_get xs i ≡ Some v → slice_range xs i to ≡ v ∷ slice_range xs (i + 1) to
+range_first xs i to v le lt at =
+    let k : to - i ≡ suc (to - (i + 1)) = omega arith in
+    ap (λ n. take n (drop i xs)) k ∙ ap (take (suc (to - (i + 1)))) (item_first xs i v lt at)
 
-pub range_done : (column : ℕ) (xs : List Version) (i : ℕ) (range total : MinMax) → length xs ≤ i → range_with column range (drop i xs) ≡ total → range ≡ total
-range_done column xs i range total le so_far = sym (ap (range_with column range) (drop_all i xs le)) ∙ so_far
+pub range_more : (column : ℕ) (xs : List Version) (i to : ℕ) (v : Version) (range wider total : MinMax) → i < to → i < length xs → slice_get xs i ≡ Some v → wider ≡ with_cell range (cell_of column v) → range_with column range (slice_range xs i to) ≡ total
+    → range_with column wider (slice_range xs (i + 1) to) ≡ total
+range_more column xs i to v range wider total le lt at is so_far =
+    ap (λ (r : MinMax). range_with column r (slice_range xs (i + 1) to)) is ∙ sym (ap (range_with column range) (range_first xs i to v le lt at)) ∙ so_far
+
+pub range_done : (column : ℕ) (xs : List Version) (i to : ℕ) (range total : MinMax) → to ≤ i → range_with column range (slice_range xs i to) ≡ total → range ≡ total
+range_done column xs i to range total le so_far =
+    let k : to - i ≡ 0 = omega arith in
+    sym (ap (λ n. range_with column range (take n (drop i xs))) k) ∙ so_far
 
 module _ (told : List MinMax) (versions : List Version) where
   by_range : (k : ℕ) (d found : MinMax) (same value : Bool) → k < length told → found ≡ range_with k Empty versions → same ≡ same_range (get_or told k d) found → same ≡ value

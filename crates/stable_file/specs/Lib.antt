@@ -4,3 +4,5 @@ pub mod Packs
 pub mod Ranges
 pub mod Faults
 pub mod Opened
+pub mod Building
+pub mod Laws

@@ -1,5 +1,5 @@
 // The numbers of a pack that its footer tells.
-ghost use Rattle.std.specs.Prelude.{◌≡◌, ◌<◌, length};
+ghost use Rattle.std.specs.Prelude.{◌≡◌, ◌<◌, ◌≤◌, length, slice_range};
 ghost use Rattle.pack_codec.specs.Faults.{Gives};
 ghost use Rattle.pack_codec.specs.Spelling.{cell_of};
 ghost use Rattle.stable_file.specs.Ranges as ranges;
@@ -48,15 +48,25 @@ fn with_version(range: MinMax, version: &Version, column: usize) -> MinMax
     with_cell(range, version.cells.at(column))
 }
 
+// The range of the numbers that the versions from one place up to but without another have in a
+// column.
+pub fn range_in(block: &Block, from: usize, to: usize, column: usize) -> MinMax
+    requires order { from ≤ to }
+    requires within { to ≤ length block.now }
+    ensures { result ≡ ranges.range_with column MinMax.Empty (slice_range block.now from to) }
+{
+    let mut range = MinMax::Empty;
+    for i in from..to {
+        range = with_version(range, block.at(i), column);
+    }
+    range
+}
+
 // The range of the numbers of a column.
 fn range_of(block: &Block, column: usize) -> MinMax
     ensures { result ≡ ranges.range_with column MinMax.Empty block.now }
 {
-    let mut range = MinMax::Empty;
-    for i in 0..block.len() {
-        range = with_version(range, block.at(i), column);
-    }
-    range
+    range_in(block, 0, block.len(), column)
 }
 
 fn same_range(a: MinMax, b: MinMax) -> bool
@@ -89,7 +99,7 @@ fn are_ranges(told: &[MinMax], block: &Block) -> bool
     true
 }
 
-fn handle_at(block: &Block, i: usize) -> i64
+pub fn handle_at(block: &Block, i: usize) -> i64
     requires { i < length block.now }
     ensures { result ≡ ranges.handle_at block.now i }
 {

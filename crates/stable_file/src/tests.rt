@@ -1,6 +1,8 @@
-// Files whose footers are written by hand: three versions in packs of two and one, read through
+// Three versions in packs of two and one, whose file is compared with one that is written by hand,
+// and read through both ways; and a hundred packs by hand, of which opening reads none.
 ghost use Rattle.std.specs.Prelude.{[]};
-// both ways, and a hundred packs, of which opening reads none.
+
+use super::versions::rise as rises;
 use super::*;
 use column_block::{Block, Cell, Cells, Column, Kind, MinMax, Schema, Version};
 use flash_io::Disk;
@@ -76,10 +78,28 @@ fn file_of(alloc: Global, block: &Block, rows: usize) -> Result<Vec<u8>, Fail> {
     Ok(file)
 }
 
+// Three versions in packs of two rows, as `build` writes them.
+fn three_built(alloc: Global) -> Result<Vec<u8>, Fail> {
+    let mut bytes = Vec::new(alloc);
+    let block = versions(alloc, 3)?;
+    if rises(&block) {
+        build(alloc, &block, &schema(alloc)?, 2, &mut bytes).map_err(|_| "memory")?;
+    }
+    Ok(bytes)
+}
+
+#[test]
+fn three_versions_are_built_as_by_hand(rt: HostRuntime) -> Result<(), Fail> {
+    let bytes = three_built(rt.alloc())?;
+    let hand = file_of(rt.alloc(), &versions(rt.alloc(), 3)?, 2)?;
+    assert_eq!(rt; bytes.as_slice(), hand.as_slice());
+    Ok(())
+}
+
 #[test]
 fn three_versions_are_attached_in_packs_of_two_and_one(rt: HostRuntime) -> Result<(), Fail> {
     let schema = schema(rt.alloc())?;
-    let bytes = file_of(rt.alloc(), &versions(rt.alloc(), 3)?, 2)?;
+    let bytes = three_built(rt.alloc())?;
     let whole = bytes.as_slice();
     let file = attach(rt.alloc(), Nothing, whole.len() as u64, whole, &schema);
     let file = file.map_err(|_| "refused")?;
@@ -116,6 +136,36 @@ impl flash_io::Gripped for Nothing {
     ghost tells = { ⊥ };
 
     ghost bytes = { λ _. [] };
+}
+
+// How many versions the packs of the three built ones have, through a reader: as the digits of
+// a number.
+fn read_counts(alloc: Global, bytes: &[u8]) -> Result<usize, Fail> {
+    let mut disk = MemDisk::new(alloc);
+    disk.create(3, bytes).map_err(|_| "memory")?;
+    let grip = disk.grip(3).map_err(|_| "memory")?;
+    let mut reader = disk.reader();
+    let file = open(
+        alloc,
+        grip,
+        bytes.len() as u64,
+        &mut reader,
+        &schema(alloc)?,
+    );
+    let file = file.map_err(|_| "refused")?;
+    let mut counts = 0usize;
+    for k in 0..file.packs() {
+        let pack = read_pack(&file, alloc, &mut reader, k).map_err(|_| "refused")?;
+        counts = counts.saturating_mul(10).saturating_add(pack.len());
+    }
+    Ok(counts)
+}
+
+#[test]
+fn three_built_versions_are_read_in_packs_of_two_and_one(rt: HostRuntime) -> Result<(), Fail> {
+    let bytes = three_built(rt.alloc())?;
+    assert_eq!(rt; read_counts(rt.alloc(), bytes.as_slice())?, 21);
+    Ok(())
 }
 
 // How many of a hundred packs could be read, where the reader's fourth call fails.

@@ -1,0 +1,71 @@
+-- What is written is read again.
+use Rattle.std.specs.Prelude.{◌≡◌, ℕ, ◌+◌, ◌-◌, ◌<◌, ◌≤◌, ◌^◌, List, [], ◌∷◌, true, length, Ok}
+use Rattle.std.specs.List.{AllByRecursion, flat_map}
+use Rattle.column_block.specs.declared.column.Column.{Column}
+use Rattle.column_block.specs.declared.column.Kind.{Kind}
+use Rattle.column_block.specs.declared.column.Kind.TheVariants as kind
+use Rattle.column_block.specs.declared.column.MinMax.{MinMax}
+use Rattle.column_block.specs.declared.column.MinMax.TheVariants.{Empty}
+use Rattle.column_block.specs.declared.cell.Version.{Version}
+use Rattle.pack_codec.specs.Spelling.{pack, PackFits, Suits}
+use Rattle.stable_file.specs.declared.pack.Pack.{Pack}
+use Rattle.stable_file.specs.Packs.{rise, versions_in}
+use Rattle.stable_file.specs.Ranges.{range_with, handle_at, told_at, told_in}
+use Rattle.stable_file.specs.Building.{cuts, file}
+
+-- The pack of some versions is read as these versions, wherever it stands.
+abbrev pub IsReadAgain : List Column → List Version → Type 0
+IsReadAgain columns versions = (end at : ℕ) → versions_in end at columns (pack columns versions) ≡ Ok versions
+
+-- ---- what the entry of a pack tells
+
+-- the range of a column's numbers; a column of bytes has none in the footer
+abbrev pub range_told : Kind → ℕ → List Version → MinMax
+range_told kind.Bytes k versions = Empty
+range_told _ k versions = range_with k Empty versions
+
+-- the ranges of these columns, of which the first is column k
+abbrev pub ranges_told : List Column → ℕ → List Version → List MinMax
+ranges_told [] k versions = []
+ranges_told (column ∷ columns) k versions = range_told column.kind k versions ∷ ranges_told columns (k + 1) versions
+
+-- the pack of these versions at this place
+abbrev pub told : List Column → ℕ → List Version → Pack
+told columns place versions = record {
+  place = place;
+  len = length (pack columns versions);
+  count = length versions;
+  low = handle_at versions 0;
+  high = handle_at versions (length versions - 1);
+  ranges = ranges_told columns 0 versions;
+}
+
+-- The pack of some versions has what its entry tells, wherever it stands.
+abbrev pub IsAsTold : List Column → List Version → Type 0
+IsAsTold columns versions = (end at : ℕ) → told_at (told columns at versions) end columns (pack columns versions) ≡ Ok versions
+
+-- ---- the packs of a file
+
+-- Each has so many versions, and the last has at least one, and not more.
+abbrev pub AreFull : ℕ → List (List Version) → Type 0
+AreFull rows [] = ⊥
+AreFull rows (cut ∷ []) = (0 < length cut) × (length cut ≤ rows)
+AreFull rows (cut ∷ next ∷ others) = (length cut ≡ rows) × AreFull rows (next ∷ others)
+
+-- The packs stand in a file's content one behind the other from this place on, and each is read there as the versions that it has.
+abbrev pub AllStand : List Column → List ℕ → ℕ → List (List Version) → Type 0
+AllStand columns content place [] = Unit {0}
+AllStand columns content place (cut ∷ others) = (told_in (told columns place cut) columns content ≡ Ok cut) × AllStand columns content (place + length (pack columns cut)) others
+
+-- The packs of a file together have its versions, and each of them is read as the versions that it has, which its entry tells.
+pub record PacksHave (columns : List Column) (rows : ℕ) (versions : List Version) : Type 0 where
+  pub together : flat_map (λ cut. cut) (cuts rows versions) ≡ versions
+  pub sizes : AreFull rows (cuts rows versions)
+  pub each : AllByRecursion (IsReadAgain columns) (cuts rows versions)
+  pub entries : AllByRecursion (IsAsTold columns) (cuts rows versions)
+  pub stand : AllStand columns (file columns rows versions) 4 (cuts rows versions)
+
+-- So it is with versions that rise and suit the schema.
+abbrev pub BuiltPacksAreReadAgain : Type 0
+BuiltPacksAreReadAgain = (columns : List Column) (rows : ℕ) (versions : List Version) → length columns < 2 ^ 16 → 0 < rows → rise versions ≡ true → AllByRecursion (Suits columns) versions → AllByRecursion (PackFits columns) (cuts rows versions)
+    → PacksHave columns rows versions
