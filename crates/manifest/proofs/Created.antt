@@ -1,5 +1,5 @@
 -- A store that is made.
-use Rattle.std.proofs.Common.{◌≡◌, ℕ, ℤ, ◌+◌, ◌<◌, ◌^◌, pos, List, [], ◌∷◌, ◌++◌, length, Option, Some, None, Ok, inl, inr, ⊎_elim, refl, sym, ap, ◌∙◌, subst, append_assoc, arith}
+use Rattle.std.proofs.Common.{◌≡◌, ◌≢◌, ℕ, ℤ, ◌+◌, ◌<◌, ◌^◌, List, [], ◌∷◌, ◌++◌, length, Option, Some, None, Ok, inl, inr, ⊎_elim, refl, sym, ap, ◌∙◌, subst, append_assoc, arith}
 use Rattle.std.specs.Prelude.{FitsSigned, Result, Err, OnOk}
 use Rattle.std.specs.List.{All, flat_map}
 use Rattle.std.specs.Int.{w64, to_be_bytes}
@@ -9,6 +9,11 @@ use Rattle.flash_io.specs.Crash.{Durable, OneFile, Created}
 use Rattle.column_block.specs.declared.column.Column.{Column}
 use Rattle.column_block.specs.Schemas.{IsSchema}
 use Rattle.manifest_form.specs.declared.recover.Recovered.{Recovered}
+use Rattle.manifest_form.specs.declared.state.State.{State}
+use Rattle.manifest_form.specs.declared.state.Edit.{Edit}
+use Rattle.manifest_form.specs.declared.fault.Fault.{Fault}
+use Rattle.flash_list.specs.Steps.{◌>>=◌}
+use Rattle.manifest_form.specs.States.{after_record}
 use Rattle.manifest_form.specs.Edits.{edits_of}
 use Rattle.manifest_form.specs.Spelling as spelling
 use Rattle.manifest_form.specs.Spelling.{EditFits, ColumnFits}
@@ -21,9 +26,9 @@ use Rattle.manifest_form.proofs.Taking.{none, more, reads}
 use Rattle.manifest.specs.declared.store.Manifest.{Manifest}
 use Rattle.manifest.specs.Gated.{with_record, IsSteady, IsBeforeOrAfter}
 use Rattle.manifest.specs.Stores.{IsNew, IsKept, has_of}
-use Rattle.manifest.specs.Made.{first_edits, new_store, Apart, NewOrMade}
+use Rattle.manifest.specs.Made.{first_edits, first_state, store_of, Apart, NewOrMade}
 use Rattle.manifest.proofs.Making.{closed_root}
-use Rattle.manifest.proofs.Stays.{names_file}
+use Rattle.manifest.proofs.Stays.{answer, names_file}
 
 abbrev pub name : List ℕ
 name = 0 ∷ 0 ∷ 0 ∷ 1 ∷ []
@@ -38,25 +43,26 @@ root_part =
     let front = 1 ∷ to_be_bytes w64 4 ++ name in
     more root_step (Some 4) 0 None None (Some 1) [] front name (none root_step (Some 4) 0 None) (record_again (Some 4) name (omega arith) refl) (named (0 + 0) (0 + 0 + length front))
 
-step_first : (chain bytes : List ℕ) → bytes ≡ flat_map spelling.edit (first_edits chain) → All EditFits (first_edits chain) → (gate stop : ℕ) → manifest_step 1 gate stop None bytes ≡ Ok (Some (new_store (pos 0) [] chain).state)
-unfolding manifest_step
-step_first chain bytes spelled fits gate stop =
-    let read : edits_of stop bytes ≡ Ok (first_edits chain) = ap (edits_of stop) spelled ∙ edits_again stop (first_edits chain) fits in
-    rw read refl
+module _ (file : ℕ) (state : State) (edits : List Edit) (bytes : List ℕ) (spelled : bytes ≡ flat_map spelling.edit edits) (fits : All EditFits edits) (after : after_record file None edits ≡ Some state) where
+  step_first : (gate stop : ℕ) → manifest_step file gate stop None bytes ≡ Ok (Some state)
+  unfolding manifest_step
+  step_first gate stop =
+      let read : edits_of stop bytes ≡ Ok edits = ap (edits_of stop) spelled ∙ edits_again stop edits fits in
+      ap (λ (r : Result (List Edit) Fault). r >>= λ es. answer gate (after_record file None es)) read ∙ ap (answer gate) after
 
 -- the bytes of a new manifest are read as that
-pub first_read : (table : ℤ) (columns : List Column) (chain bytes record' : List ℕ) → FitsSigned w64 table → IsSchema columns → All ColumnFits columns → record' ≡ flat_map spelling.edit (first_edits chain) → All EditFits (first_edits chain) → length record' < 2 ^ 64
-    → bytes ≡ spelling.header table columns ++ 1 ∷ [] ++ (to_be_bytes w64 (length record') ++ (record' ++ 0 ∷ [])) → manifest_of 1 bytes ≡ Ok (new_store table columns chain)
-first_read table columns chain bytes record' table_fits schema columns_fit spelled fits sized is =
+pub first_read : (table : ℤ) (columns : List Column) (edits : List Edit) (bytes record' : List ℕ) → FitsSigned w64 table → IsSchema columns → All ColumnFits columns → record' ≡ flat_map spelling.edit edits → All EditFits edits → length record' < 2 ^ 64
+    → bytes ≡ spelling.header table columns ++ 1 ∷ [] ++ (to_be_bytes w64 (length record') ++ (record' ++ 0 ∷ [])) → (file : ℕ) (state : State) → after_record file None edits ≡ Some state → manifest_of file bytes ≡ Ok (store_of table columns state)
+first_read table columns edits bytes record' table_fits schema columns_fit spelled fits sized is file state after =
     let front = spelling.header table columns in
     let one = 1 ∷ to_be_bytes w64 (length record') ++ record' in
-    let has = new_store table columns chain in
-    let part : IsManifest 1 has (front ++ one) = record {
+    let has = store_of table columns state in
+    let part : IsManifest file has (front ++ one) = record {
       front = front;
       records = one;
       is = refl;
       header = header_again table columns table_fits schema columns_fit;
-      takes = more (manifest_step 1) None (length front) None None (Some has.state) [] one record' (none (manifest_step 1) None (length front) None) (record_again None record' sized refl) (step_first chain record' spelled fits _ _);
+      takes = more (manifest_step file) None (length front) None None (Some has.state) [] one record' (none (manifest_step file) None (length front) None) (record_again None record' sized refl) (step_first file state edits record' spelled fits after _ _);
     } in
     let shut : ClosedAt (front ++ one) bytes = record {
       gate = 0;
@@ -64,7 +70,10 @@ first_read table columns chain bytes record' table_fits schema columns_fit spell
       is = is ∙ append_assoc front (1 ∷ []) (to_be_bytes w64 (length record') ++ (record' ++ 0 ∷ [])) ∙ ap (λ (l : List ℕ). front ++ 1 ∷ l) (sym (append_assoc (to_be_bytes w64 (length record')) record' (0 ∷ []))) ∙ sym (append_assoc front one (0 ∷ []));
       closed = λ e. cc;
     } in
-    reads 1 has (front ++ one) bytes part shut
+    reads file has (front ++ one) bytes part shut
+
+pub first_after : (chain : List ℕ) → after_record 1 None (first_edits chain) ≡ Some (first_state chain)
+first_after chain = refl
 
 -- ---- images
 
@@ -110,9 +119,9 @@ staged_new old mid n steady apart c made =
 pub root_stays : (mid new : Image → Type 0) (n : ℕ) → IsSteady 0 [] mid → ((c : Image) → new c → (d : Image) × mid d × Created 1 n d c) → IsSteady 0 [] new
 root_stays mid new n steady made = (steady.0, steady.1, λ c left. let from = made c left in from.2.0 0 (λ e. absurd (cc e)) ∙ steady.2 from.0 from.1)
 
--- file 1 stays while the root is written
-pub one_stays : (mid new : Image → Type 0) (bytes : List ℕ) (P : Option (List ℕ) → Type 0) → Durable 1 bytes mid → ((c : Image) → new c → OneFile 0 mid P c) → Durable 1 bytes new
-one_stays mid new bytes P durable each c left = let one = each c left in one.0.2 1 (λ e. absurd (cc e)) ∙ durable one.0.0 one.0.1
+-- another file stays while the root is written
+pub file_stays : (file : ℕ) → file ≢ 0 → (mid new : Image → Type 0) (bytes : List ℕ) (P : Option (List ℕ) → Type 0) → Durable file bytes mid → ((c : Image) → new c → OneFile 0 mid P c) → Durable file bytes new
+file_stays file apart mid new bytes P durable each c left = let one = each c left in one.0.2 file apart ∙ durable one.0.0 one.0.1
 
 -- what holds whatever was answered holds where the answer is Ok
 pub ok_so : {X E P : Type 0} (r : Result X E) → P → OnOk r P

@@ -8,3 +8,4 @@ pub mod Listed
 pub mod Stays
 pub mod Making
 pub mod Created
+pub mod NextFile

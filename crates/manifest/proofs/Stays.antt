@@ -1,6 +1,6 @@
 -- What a manifest has of its disk stays where other files change.
 use Rattle.std.proofs.Common.{◌≡◌, ℕ, ◌+◌, ◌<◌, ◌≤◌, Bool, true, false, ltb, List, ◌∷◌, ◌++◌, length, Option, Some, None, Ok, inl, inr, ⊎_elim, refl, sym, ap, ◌∙◌, subst, append_assoc, length-append, arith}
-use Rattle.std.specs.Prelude.{◌&&◌, ◌^◌, if◌then◌else◌, Result, Err}
+use Rattle.std.specs.Prelude.{◌&&◌, ◌^◌, Result, Err}
 use Rattle.std.specs.List.{All, flat_map}
 use Rattle.std.specs.Int.{w64, to_be_bytes}
 use Rattle.flash_io.specs.Image.{Image, Holds, SameBut}
@@ -20,6 +20,7 @@ use Rattle.manifest_form.specs.Walk.{root_of, manifest_step}
 use Rattle.manifest_form.specs.Takes.{IsRoot, IsManifest, Closes}
 use Rattle.manifest_form.proofs.Again.{edits_again}
 use Rattle.manifest_form.proofs.Fronts.{record_again}
+use Rattle.manifest_form.proofs.Segments.{if_true}
 use Rattle.manifest_form.proofs.Taking.{more, names, reads}
 use Rattle.manifest.specs.declared.store.Manifest.{Manifest}
 use Rattle.manifest.specs.Gated.{with_record, IsSteady, IsCommitted, IsBeforeOrAfter}
@@ -27,15 +28,11 @@ use Rattle.manifest.specs.Stores.{HasStore, has_of, has_with, IsKept}
 use Rattle.manifest.specs.Appended.{IsAppended}
 use Rattle.manifest.specs.Runs.{OldOrNew}
 
-if_true : {X : Type 0} (b : Bool) (x y : X) → b ≡ true → (if b then x else y) ≡ x
-if_true true x y h = refl
-if_true false x y h = absurd (cc h)
-
-abbrev answer : ℕ → Option State → Result (Option State) Fault
+abbrev pub answer : ℕ → Option State → Result (Option State) Fault
 answer gate None = Err (At gate)
 answer gate (Some s) = Ok (Some s)
 
-positive : (n : ℕ) → 0 < n → 0 ≡ n → ⊥
+pub positive : (n : ℕ) → 0 < n → 0 ≡ n → ⊥
 positive n some is = omega (arith, some, is)
 
 -- a root names its file in each image that has it

@@ -5,3 +5,4 @@ pub mod Found
 pub mod Appended
 pub mod Made
 pub mod Gates
+pub mod Rolled

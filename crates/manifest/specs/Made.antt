@@ -18,9 +18,13 @@ first_edits chain = Next 2 ∷ Segment (whole 0 []) ∷ High 0 chain ∷ SafePoi
 abbrev pub first_state : List ℕ → State
 first_state chain = record { next = 2; segments = whole 0 [] ∷ []; high = 0; chain = chain; safe_point = 0; regions = None }
 
+-- a store of this table and these columns in this state
+abbrev pub store_of : ℤ → List Column → State → Recovered
+store_of table columns state = record { header = record { table = table; columns = columns }; state = state }
+
 -- a new store of this table and these columns; the chain value is that of no entries
 abbrev pub new_store : ℤ → List Column → List ℕ → Recovered
-new_store table columns chain = record { header = record { table = table; columns = columns }; state = first_state chain }
+new_store table columns chain = store_of table columns (first_state chain)
 
 -- a new store in file 1
 pub record IsFresh (table : ℤ) (columns : List Column) (chain : List ℕ) (m : Manifest) : Type 0 where

@@ -1,13 +1,15 @@
 // Making a store.
-ghost use Rattle.std.specs.Prelude.{◌≡◌, ◌≢◌, ◌∷◌, [], ℕ, length, true, Ok, OnOk, IfOk, IsErrOf};
+ghost use Rattle.std.specs.Prelude.{◌≡◌, ◌≢◌, ◌∷◌, [], ℕ, ◌<◌, length, true, Some, None, Ok, OnOk, IfOk, IsErrOf};
 ghost use Rattle.flash_io.specs.Crash.{Durable, LeavesOnly};
 ghost use Rattle.flash_io.specs.Faults.{Rose};
 ghost use Rattle.column_block.specs.Schemas.{IsSchema};
 ghost use Rattle.manifest_form.specs.declared.recover.Recovered.{Recovered};
+ghost use Rattle.manifest_form.specs.declared.state.State.{State};
+ghost use Rattle.manifest_form.specs.States.{after_record};
 ghost use Rattle.manifest_form.specs.Takes.{IsManifest, Closes};
 ghost use Rattle.manifest_form.specs.Walk.{manifest_of};
 ghost use Rattle.manifest.specs.Gated.{with_record, IsSteady};
-ghost use Rattle.manifest.specs.Made.{first_edits, new_store, IsFresh, IsUnmade, Apart, NewOrMade};
+ghost use Rattle.manifest.specs.Made.{first_edits, store_of, new_store, IsFresh, IsUnmade, Apart, NewOrMade};
 ghost use Rattle.manifest.specs.Runs.{Counted};
 ghost use Rattle.manifest.specs.Stores.{IsNew, IsKept, has_of};
 
@@ -45,7 +47,25 @@ fn first_edits(alloc: Global, chain: [u8; 32]) -> Result<Vec<Edit>, AllocError>
     Ok(edits)
 }
 
-// The whole file of a new manifest.
+/// The whole file of a new manifest, whose first record has these edits.
+pub fn file_bytes(
+    alloc: Global,
+    table: i64,
+    columns: &[Column],
+    edits: &[Edit],
+) -> Result<Vec<u8>, AllocError>
+    requires lawful { IsSchema columns.now }
+    ensures { IfOk result (λ bytes. (file : ℕ) (state : State) → after_record file None edits.now ≡ Some state → manifest_of file bytes.items ≡ Ok (store_of table columns.now state)) }
+{
+    let record = spelled(alloc, edits)?;
+    let mut bytes = Vec::new(alloc);
+    put_header(table, columns, &mut bytes)?;
+    put_u8(1, &mut bytes)?;
+    put_record(record.as_slice(), &mut bytes)?;
+    Ok(bytes)
+}
+
+// The whole file of the manifest of a new store.
 fn first_bytes(
     alloc: Global,
     table: i64,
@@ -56,20 +76,18 @@ fn first_bytes(
     ensures { IfOk result (λ bytes. manifest_of 1 bytes.items ≡ Ok (new_store table columns.now chain)) }
 {
     let edits = first_edits(alloc, chain)?;
-    let record = spelled(alloc, edits.as_slice())?;
-    let mut bytes = Vec::new(alloc);
-    put_header(table, columns, &mut bytes)?;
-    put_u8(1, &mut bytes)?;
-    put_record(record.as_slice(), &mut bytes)?;
+    let bytes = file_bytes(alloc, table, columns, edits.as_slice())?;
     Ok(bytes)
 }
 
-// The manifest of these bytes of file 1.
-fn first_manifest(alloc: Global, bytes: &[u8]) -> Result<Manifest, CommitError>
-    ensures made { IfOk result (λ m. (m.file ≡ 1) × (m.root_at ≡ 13) × (m.steadied ≡ true) × (manifest_of 1 bytes.now ≡ Ok (has_of m)) × Closes (IsManifest 1 (has_of m)) m.at bytes.now) }
+/// The manifest of these bytes of its file.
+pub fn read_back(alloc: Global, name: RootEnd, bytes: &[u8]) -> Result<Manifest, CommitError>
+    requires apart { 0 < name.file }
+    requires named { 0 < name.at }
+    ensures made { IfOk result (λ m. (m.file ≡ name.file) × (m.root_at ≡ name.at) × (m.steadied ≡ true) × (manifest_of name.file bytes.now ≡ Ok (has_of m)) × Closes (IsManifest name.file (has_of m)) m.at bytes.now) }
     ensures device { IsErrOf result CommitError.Device → ⊥ }
 {
-    match recovered(alloc, RootEnd { file: 1, at: 13 }, bytes) {
+    match recovered(alloc, name, bytes) {
         Ok(manifest) => Ok(settled(manifest)),
         Err(_) => Err(CommitError::Memory),
     }
@@ -134,7 +152,7 @@ pub fn create<D: Disk>(
     ensures device { IsErrOf result CommitError.Device → Rose (D.fault_count disk.old) (D.fault_count disk.new) }
 {
     let bytes = first_bytes(alloc, table, schema.columns(), chain)?;
-    let manifest = first_manifest(alloc, bytes.as_slice())?;
+    let manifest = read_back(alloc, RootEnd { file: 1, at: 13 }, bytes.as_slice())?;
     establish(alloc, disk, bytes.as_slice())?;
     Ok(manifest)
 }

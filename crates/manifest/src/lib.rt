@@ -9,6 +9,7 @@ mod fault;
 mod gated;
 mod reading;
 mod ready;
+mod rolling;
 mod shown;
 mod staging;
 mod steadying;

@@ -4,7 +4,9 @@ ghost use Rattle.flash_io.specs.Image.{IsThere, Holds};
 ghost use Rattle.flash_io.specs.Faults.{Rose};
 ghost use Rattle.manifest_form.specs.Takes.{IsRoot, IsManifest, Closes};
 ghost use Rattle.manifest_form.specs.Walk.{root_of};
+ghost use Rattle.column_block.specs.Schemas.{IsSchema};
 ghost use Rattle.manifest_form.specs.States.{is_formed};
+ghost use Rattle.manifest_form.specs.Whole.{IdsDiffer};
 ghost use Rattle.manifest.specs.Stores.{OpensAs, IsRead, has_of};
 ghost use Rattle.manifest.specs.Found.{refusal_of, RootAnswers, Finds, FindsAll};
 ghost use Rattle.manifest.specs.Runs.{Untouched, Counted};
@@ -66,6 +68,8 @@ fn made(alloc: Global, name: RootEnd, has: Recovered, at: u64) -> Manifest
     requires apart { 0 < name.file }
     requires named { 0 < name.at }
     requires formed { is_formed name.file has.state ≡ true }
+    requires lawful { IsSchema has.header.columns }
+    requires differ { IdsDiffer has.state.segments }
     ensures { (result.file ≡ name.file) × (result.root_at ≡ name.at) × (result.steadied ≡ false) × (has_of result ≡ has) × (result.at ≡ at) }
 {
     let Recovered { header, state } = has;

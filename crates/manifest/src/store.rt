@@ -1,6 +1,8 @@
 // The manifest of a store.
 ghost use Rattle.std.specs.Prelude.{◌≡◌, ◌<◌, true};
+ghost use Rattle.column_block.specs.Schemas.{IsSchema};
 ghost use Rattle.manifest_form.specs.States.{is_formed};
+ghost use Rattle.manifest_form.specs.Whole.{IdsDiffer, IdsDiffer-prop};
 
 use flash_io::FileId;
 use manifest_form::{Columns, State};
@@ -24,6 +26,12 @@ pub struct Manifest {
 
     // The segments hold every handle once, and all numbers, that of the file too, are below Next.
     ghost formed: { is_formed file state ≡ true },
+
+    // The columns make a schema.
+    ghost lawful: { IsSchema columns },
+
+    // No two segments have the same id.
+    ghost differ: { IdsDiffer state.segments } by { IdsDiffer-prop state.segments },
 
     // The root has a record.
     ghost named: { 0 < root_at },

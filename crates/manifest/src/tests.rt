@@ -31,7 +31,44 @@ fn point<D: Disk>(manifest: &mut Manifest, disk: &mut D, ts: u64) -> Result<(), 
     manifest.commit(disk, &[Edit::SafePoint { ts }])
 }
 
-// Makes a store and commits the safe points 1, 2 and 3. It answers how many of the four were done.
+// Rolls a store that has numbers left.
+fn rolled<D: Disk>(manifest: &mut Manifest, disk: &mut D) -> Result<(), CommitError>
+    requires steadied { manifest.old.steadied ≡ true }
+    requires kept { IsKept (D.may_leave disk.old) manifest.old }
+    ensures steadied { OnOk result (manifest.new.steadied ≡ true) }
+    ensures kept { OnOk result (IsKept (D.may_leave disk.new) manifest.new) }
+{
+    if manifest.state().next == u32::MAX {
+        return Err(CommitError::Memory);
+    }
+    manifest.roll(disk)
+}
+
+// Commits the safe points 1, 2 and 3, rolls, and commits the safe point 4. It answers how many of
+// the five were done.
+fn later_steps<D: Disk>(manifest: &mut Manifest, disk: &mut D) -> u64
+    requires steadied { manifest.old.steadied ≡ true }
+    requires kept { IsKept (D.may_leave disk.old) manifest.old }
+{
+    if point(manifest, disk, 1).is_err() {
+        return 0;
+    }
+    if point(manifest, disk, 2).is_err() {
+        return 1;
+    }
+    if point(manifest, disk, 3).is_err() {
+        return 2;
+    }
+    if rolled(manifest, disk).is_err() {
+        return 3;
+    }
+    if point(manifest, disk, 4).is_err() {
+        return 4;
+    }
+    5
+}
+
+// Makes a store and does the later steps. It answers how many of the six were done.
 fn steps<D: Disk>(alloc: Global, disk: &mut D) -> u64
     requires new { D.tells → IsNew (D.files disk.old) }
 {
@@ -41,24 +78,41 @@ fn steps<D: Disk>(alloc: Global, disk: &mut D) -> u64
     let Ok(mut manifest) = create(alloc, disk, 9, &schema, [3; 32]) else {
         return 0;
     };
-    if point(&mut manifest, disk, 1).is_err() {
-        return 1;
-    }
-    if point(&mut manifest, disk, 2).is_err() {
-        return 2;
-    }
-    if point(&mut manifest, disk, 3).is_err() {
-        return 3;
-    }
-    4
+    later_steps(&mut manifest, disk).saturating_add(1)
 }
 
-// How many of the four steps an opening finds; 9 where it finds something else.
+// How many of the six steps an opening finds, of which the roll alone raises Next from 2 to 3;
+// 9 where it finds something else.
 fn found<D: Disk>(alloc: Global, disk: &mut D) -> u64 {
     match open(alloc, disk) {
         Ok(None) => 0,
-        Ok(Some(manifest)) => manifest.state().safe_point.saturating_add(1),
+        Ok(Some(manifest)) => {
+            let state = manifest.state();
+            let points = state.safe_point.saturating_add(1);
+            points.saturating_add((state.next as u64).saturating_sub(2))
+        }
         Err(_) => 9,
+    }
+}
+
+// Makes a store, commits the safe point 7, and rolls where it is asked to.
+fn seven<D: Disk>(alloc: Global, disk: &mut D, rolls: bool) -> Result<(), CommitError>
+    requires new { D.tells → IsNew (D.files disk.old) }
+{
+    let schema = schema(alloc)?;
+    let mut manifest = create(alloc, disk, 9, &schema, [3; 32])?;
+    point(&mut manifest, disk, 7)?;
+    if rolls {
+        return rolled(&mut manifest, disk);
+    }
+    Ok(())
+}
+
+// The safe point that an opening finds.
+fn safe_point<D: Disk>(alloc: Global, disk: &mut D) -> Option<u64> {
+    match open(alloc, disk) {
+        Ok(Some(manifest)) => Some(manifest.state().safe_point),
+        _ => None,
     }
 }
 
@@ -107,7 +161,7 @@ fn a_staged_file_is_read_back(rt: HostRuntime) {
 
 #[test]
 fn a_stop_at_any_call_leaves_the_old_state_or_the_new_one(rt: HostRuntime) {
-    for call in 1..23u64 {
+    for call in 1..33u64 {
         for k in 0..8u64 {
             let mut disk = failing_at(rt.alloc(), call).expect(&rt, "room");
             let done = steps(rt.alloc(), &mut disk);
@@ -120,11 +174,17 @@ fn a_stop_at_any_call_leaves_the_old_state_or_the_new_one(rt: HostRuntime) {
 }
 
 #[test]
-fn making_a_store_takes_nine_calls_and_a_commit_four(rt: HostRuntime) {
-    for call in 1..23u64 {
+fn making_a_store_takes_nine_calls_a_commit_four_and_a_roll_six(rt: HostRuntime) {
+    for call in 1..33u64 {
         let mut disk = failing_at(rt.alloc(), call).expect(&rt, "room");
         let done = steps(rt.alloc(), &mut disk);
-        let wanted = if call < 10 { 0 } else { (call - 6) / 4 };
+        let wanted = match call {
+            0..=9 => 0,
+            10..=21 => (call - 6) / 4,
+            22..=27 => 4,
+            28..=31 => 5,
+            _ => 6,
+        };
         assert_eq!(rt; done, wanted);
     }
 }
@@ -141,7 +201,16 @@ fn a_half_made_root_is_made_whole(rt: HostRuntime) {
     for root in roots {
         let mut disk = MemDisk::new(rt.alloc());
         let done = steps_over(rt.alloc(), &mut disk, root).expect(&rt, "room");
-        assert_eq!(rt; done, 4);
-        assert_eq!(rt; found(rt.alloc(), &mut disk), 4);
+        assert_eq!(rt; done, 6);
+        assert_eq!(rt; found(rt.alloc(), &mut disk), 6);
+    }
+}
+
+#[test]
+fn a_safe_point_stays_where_the_store_is_opened_and_rolled(rt: HostRuntime) {
+    for rolls in [false, true] {
+        let mut disk = MemDisk::new(rt.alloc());
+        seven(rt.alloc(), &mut disk, rolls).expect(&rt, "room and no fault");
+        assert_eq!(rt; safe_point(rt.alloc(), &mut disk), Some(7));
     }
 }

@@ -1,9 +1,8 @@
 -- What a reader took is read again, whatever stands behind it and wherever the file ends.
-use Rattle.std.proofs.Common.{◌≡◌, ℕ, suc, zero, ◌+◌, ◌-◌, ◌^◌, ◌<◌, ◌≤◌, Bool, true, false, ltb, eqb, List, [], ◌∷◌, ◌++◌, length, take, drop, Option, Some, None, Result, Ok, Err, refl, sym, ap, ◌∙◌, subst, append_assoc, arith, length-append, length-take, take-append-drop, take_at}
+use Rattle.std.proofs.Common.{◌≡◌, ℕ, suc, zero, ◌+◌, ◌^◌, ◌<◌, ◌≤◌, Bool, true, false, ltb, eqb, List, [], ◌∷◌, ◌++◌, length, take, drop, Option, Some, None, Result, Ok, Err, refl, sym, ap, ◌∙◌, append_assoc, arith, length-append, length-take, take-append-drop, take_at}
 use Rattle.std.specs.Prelude.{if◌then◌else◌, ◌||◌}
 use Rattle.std.specs.Int.{Width, w16, w32, w64, byte_len, from_be_bytes, to_be_bytes, cast_signed}
-use Rattle.std.proofs.lemmas.Bool.{le-ltb, eqb-true}
-use Rattle.std.proofs.lemmas.Nat.{from_be_bytes-to_be_bytes_8}
+use Rattle.std.proofs.lemmas.Bool.{le-ltb}
 use Rattle.std.proofs.Math.Seq.{drop-append_seam}
 use Rattle.flash_list.specs.Steps.{◌>>=◌, each_at}
 use Rattle.flash_list.specs.Fields.{number_at}
@@ -32,7 +31,7 @@ pub then_ok : {A E : Type 0} (b : Bool) (x : Result A E) (e : E) (y : A) → (if
 then_ok true x e y h = (refl, h)
 then_ok false x e y h = absurd (cc h)
 
-ok_same : {A E : Type 0} {a b : A} → ◌≡◌ {A = Result A E} (Ok a) (Ok b) → a ≡ b
+pub ok_same : {A E : Type 0} {a b : A} → ◌≡◌ {A = Result A E} (Ok a) (Ok b) → a ≡ b
 ok_same e = cc
 
 pub not_below : (n k : ℕ) → ltb n k ≡ false → k ≤ n

@@ -1,8 +1,8 @@
 -- A header that is written is read again, whatever follows.
-use Rattle.std.proofs.Common.{◌≡◌, ℕ, ℤ, zero, suc, ◌+◌, ◌^◌, ◌<◌, ◌≤◌, Bool, true, false, ltb, eqb, List, [], ◌∷◌, ◌++◌, length, map, Option, Some, None, Ok, refl, sym, ap, ◌∙◌, append_assoc, arith}
-use Rattle.std.specs.Prelude.{FitsSigned, ◌||◌, if◌then◌else◌}
+use Rattle.std.proofs.Common.{◌≡◌, ℕ, ℤ, suc, ◌+◌, ◌≤◌, Bool, true, false, ltb, List, [], ◌∷◌, ◌++◌, length, Some, None, Ok, refl, ap, ◌∙◌, append_assoc, arith}
+use Rattle.std.specs.Prelude.{FitsSigned, if◌then◌else◌}
 use Rattle.std.specs.List.{All, flat_map}
-use Rattle.std.specs.Int.{Width, w16, w32, w64, to_be_bytes, cast_signed, cast_unsigned}
+use Rattle.std.specs.Int.{w16, w32, w64, to_be_bytes, cast_signed, cast_unsigned}
 use Rattle.std.proofs.lemmas.Bool.{le-ltb}
 use Rattle.std.proofs.lemmas.Int.{to_z-of_z}
 use Rattle.std.proofs.Math.Facts.{Fits-of_z}
@@ -13,7 +13,6 @@ use Rattle.column_block.specs.declared.column.Kind.{Kind}
 use Rattle.column_block.specs.declared.column.Kind.TheVariants.{Int, Uint, Bytes}
 use Rattle.column_block.specs.Rising.{fall_after, first_fall}
 use Rattle.column_block.specs.Schemas.{IsSchema, ids}
-use Rattle.manifest_form.specs.declared.fault.Fault.{Fault}
 use Rattle.manifest_form.specs.declared.fault.Fault.TheVariants.{At}
 use Rattle.manifest_form.specs.Header.{magic, kind_of, number_in, id_at, column_at, columns_at, above, version_at, header_at}
 use Rattle.manifest_form.specs.Spelling as S

@@ -6,3 +6,6 @@ pub mod Fronts
 pub mod Taking
 pub mod Grow
 pub mod SomeEdits
+pub mod Differ
+pub mod Lawful
+pub mod Segments

@@ -1,13 +1,12 @@
 -- A walk over records whose fronts are known.
-use Rattle.std.proofs.Common.{◌≡◌, ◌≢◌, ℕ, suc, ◌+◌, ◌-◌, ◌<◌, ◌≤◌, true, false, ltb, eqb, List, [], ◌∷◌, ◌++◌, length, Option, Some, None, Result, Ok, Err, refl, sym, ap, ◌∙◌, subst, append_assoc, arith, length-append}
+use Rattle.std.proofs.Common.{◌≡◌, ◌≢◌, ℕ, suc, ◌+◌, ◌-◌, ◌≤◌, true, false, ltb, eqb, List, [], ◌∷◌, ◌++◌, length, Option, Some, None, Result, Ok, refl, sym, ap, ◌∙◌, subst, append_assoc, arith, length-append}
 use Rattle.std.proofs.lemmas.Bool.{ne_eqb, le-ltb}
-use Rattle.std.proofs.lemmas.List.{append-nil}
 use Rattle.flash_list.specs.Steps.{◌>>=◌}
 use Rattle.manifest_form.specs.declared.fault.Fault.{Fault}
 use Rattle.manifest_form.specs.declared.recover.Recovered.{Recovered}
 use Rattle.manifest_form.specs.Header.{header_at}
 use Rattle.manifest_form.specs.Walk.{sized_at, record_at, walk, root_step, root_of, manifest_step, state_of, manifest_of}
-use Rattle.manifest_form.specs.Takes.{ClosedAt, IsRecord, IsHeader, Takes, IsRoot, IsManifest, Closes}
+use Rattle.manifest_form.specs.Takes.{ClosedAt, IsRecord, Takes, IsRoot, IsManifest, Closes}
 use Rattle.std.specs.Option.{option_map}
 use Rattle.manifest_form.specs.declared.root.RootEnd.{RootEnd}
 use Rattle.manifest_form.specs.declared.header.Header.{Header}

@@ -9,6 +9,7 @@ use Rattle.manifest_form.specs.declared.state.Edit.{Edit}
 use Rattle.manifest_form.specs.declared.state.Edit.TheVariants.{Next, Segment, High, SafePoint}
 use Rattle.manifest_form.specs.declared.fault.Fault.TheVariants.{At}
 use Rattle.manifest_form.specs.States.{least_handle, after_record}
+use Rattle.manifest_form.specs.Whole.{with_next, whole_edits}
 use Rattle.flash_list.specs.Fields.{number_at}
 use Rattle.manifest_form.specs.Walk as walking
 
@@ -39,6 +40,10 @@ a_file_at_next_is_refused = refl
 
 two_segments_on_all_handles_are_refused : after_record 1 (Some new_state) (Segment (whole 1 []) ∷ []) ≡ None
 two_segments_on_all_handles_are_refused = refl
+
+-- A roll writes the whole state to file 2, with Next raised.
+a_state_told_whole_is_made_again : after_record 2 None (whole_edits 3 new_state) ≡ Some (with_next 3 new_state)
+a_state_told_whole_is_made_again = refl
 
 -- ---- a root
 

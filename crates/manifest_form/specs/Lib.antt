@@ -9,3 +9,4 @@ pub mod Example
 pub mod Spelling
 pub mod Takes
 pub mod Roots
+pub mod Whole

@@ -1,5 +1,5 @@
 -- What a root names.
-use Rattle.std.specs.Prelude.{◌≡◌, ℕ, List, Option, Some, None, Result, Ok, Err}
+use Rattle.std.specs.Prelude.{ℕ, List, Option, Some, None, Result, Ok, Err}
 use Rattle.std.specs.Option.{option_map}
 use Rattle.manifest_form.specs.declared.fault.Fault.{Fault}
 use Rattle.manifest_form.specs.declared.root.RootEnd.{RootEnd}

@@ -1,7 +1,6 @@
 -- Bytes that a reader takes as far as they go, whatever stands behind them.
-use Rattle.std.specs.Prelude.{◌≡◌, ◌≢◌, ℕ, ◌+◌, ◌≤◌, List, [], ◌∷◌, ◌++◌, length, Option, Some, None, Result, Ok}
+use Rattle.std.specs.Prelude.{◌≡◌, ◌≢◌, ℕ, ◌+◌, ◌≤◌, List, ◌∷◌, ◌++◌, length, Option, Some, None, Result, Ok}
 use Rattle.manifest_form.specs.declared.fault.Fault.{Fault}
-use Rattle.manifest_form.specs.declared.state.State.{State}
 use Rattle.manifest_form.specs.declared.header.Header.{Header}
 use Rattle.manifest_form.specs.declared.recover.Recovered.{Recovered}
 use Rattle.manifest_form.specs.Header.{header_at}

@@ -2,6 +2,7 @@
 ghost use Rattle.std.specs.Prelude.{◌≡◌, ◌≤◌, ◌<◌, ◌+◌, [], length, vec_len, IfOk};
 ghost use Rattle.std.specs.Vec.{vec_capacity};
 ghost use Rattle.manifest_form.specs.States.{placed, without, done, with_segments, all_done};
+ghost use Rattle.manifest_form.specs.Whole.{IdsDiffer};
 
 use crate::apply::{place_of, take_out};
 use crate::state::{Edit, State, StoredFile, StoredFiles, StoredSegment, StoredSegments};
@@ -13,7 +14,7 @@ fn copied_files(alloc: Global, files: &[StoredFile]) -> Result<StoredFiles, Allo
     StoredFiles::from_slice(alloc, files)
 }
 
-fn copied_segment(alloc: Global, segment: &StoredSegment) -> Result<StoredSegment, AllocError>
+pub fn copied_segment(alloc: Global, segment: &StoredSegment) -> Result<StoredSegment, AllocError>
     ensures { IfOk result (λ copy. copy ≡ segment.now) }
 {
     let delta = copied_files(alloc, segment.delta.as_slice())?;
@@ -99,9 +100,8 @@ fn move_all(from: &mut StoredSegments, to: &mut Vec<StoredSegment>)
     let _ = to.append(from);
 }
 
-/// Does edits, in order. `spare` becomes the place of the segments, and has room for them and one
-/// more for each edit, so that no memory is taken.
-pub fn do_all(state: &mut State, edits: Vec<Edit>, spare: Vec<StoredSegment>)
+// Does edits, in order.
+fn do_each(state: &mut State, edits: Vec<Edit>, spare: Vec<StoredSegment>)
     requires empty { spare.items ≡ [] }
     requires room { length state.old.segments + vec_len edits ≤ vec_capacity spare }
     ensures { state.new ≡ all_done state.old edits.items }
@@ -112,4 +112,17 @@ pub fn do_all(state: &mut State, edits: Vec<Edit>, spare: Vec<StoredSegment>)
         do_one(state, &mut segments, edit);
     }
     state.segments = StoredSegments { segments };
+}
+
+/// Does edits, in order. `spare` becomes the place of the segments, and has room for them and one
+/// more for each edit, so that no memory is taken.
+pub fn do_all(state: &mut State, edits: Vec<Edit>, spare: Vec<StoredSegment>)
+    requires empty { spare.items ≡ [] }
+    requires room { length state.old.segments + vec_len edits ≤ vec_capacity spare }
+    ensures done { state.new ≡ all_done state.old edits.items }
+
+    // No two segments come to have the same id.
+    ensures differ { IdsDiffer state.old.segments → IdsDiffer state.new.segments }
+{
+    do_each(state, edits, spare);
 }

@@ -17,13 +17,15 @@ mod put;
 mod recover;
 mod root;
 mod state;
+mod whole;
 
 pub use apply::is_formed;
 pub use change::{copied, do_all};
 pub use fault::Fault;
 pub use header::{Columns, Header};
-pub use laws::{edits_are_read_again, headers_are_read_again};
+pub use laws::{edits_are_read_again, headers_are_read_again, whole_states_are_done_again};
 pub use put::{put_edits, put_header};
 pub use recover::{Recovered, manifest_of};
 pub use root::{RootEnd, named, root_of};
 pub use state::{Edit, Edits, State, StoredFile, StoredFiles, StoredSegment, StoredSegments};
+pub use whole::whole_edits;

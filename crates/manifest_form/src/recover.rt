@@ -1,9 +1,11 @@
 // What a manifest's file has.
 ghost use Rattle.std.specs.Prelude.{◌≡◌, ◌≤◌, ◌-◌, ◌+◌, ◌++◌, List, ℕ, length, true, Some, None, OnOk, IfOk};
+ghost use Rattle.column_block.specs.Schemas.{IsSchema};
 ghost use Rattle.manifest_form.specs.Faults.{Gives};
 ghost use Rattle.manifest_form.specs.States.{changed, nothing, is_formed, AllFormed};
 ghost use Rattle.manifest_form.specs.Takes.{Takes, ClosedAt, Closes, IsManifest};
 ghost use Rattle.manifest_form.specs.Walk.{walk, manifest_step, state_of, manifest_of};
+ghost use Rattle.manifest_form.specs.Whole.{IdsDiffer};
 
 use crate::apply::{apply_all, is_formed, sets_marks};
 use crate::edit::edits_of;
@@ -123,6 +125,10 @@ pub fn manifest_of(alloc: Global, file: FileId, bytes: &[u8]) -> Result<(Recover
     ensures gives { Gives (λ x. x.0) result (manifest_of file bytes.now) }
     ensures formed { IfOk result (λ x. is_formed file x.0.state ≡ true) }
     ensures found { IfOk result (λ x. Closes (IsManifest file x.0) x.1 bytes.now) }
+
+    // The columns make a schema, and no two segments have the same id.
+    ensures lawful { IfOk result (λ x. IsSchema x.0.header.columns) }
+    ensures differ { IfOk result (λ x. IdsDiffer x.0.state.segments) }
 {
     let end = bytes.len() as u64;
     let (header, rest) = header_of(alloc, end, bytes)?;

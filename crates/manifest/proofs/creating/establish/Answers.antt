@@ -2,7 +2,7 @@ use Rattle.std.proofs.Common.{[], refl, inl}
 use Rattle.flash_io.proofs.Moments.{weaken, then}
 use Rattle.manifest.specs.Gated.{IsBeforeOrAfter}
 use Rattle.manifest.specs.Made.{NewOrMade}
-use Rattle.manifest.proofs.Created.{ok_so, name, root_opened, one_stays}
+use Rattle.manifest.proofs.Created.{ok_so, name, root_opened, file_stays}
 use Rattle.manifest.proofs.creating.establish.Goals as goal
 
 pub returns-clause-root : goal.returns-clause-root
@@ -14,7 +14,7 @@ returns-clause-staged g c =
     let mid = c.lay.new.disk in
     let new = c.commit.new.disk in
     let run = c.commit.ensures.any_moment [] refl c.in_ok-lay.ensures.root in
-    ok_so c.commit.result (one_stays (D.may_leave mid) (D.may_leave new) c.args.bytes.now (IsBeforeOrAfter [] name) c.in_ok-lay.ensures.staged (λ x left. run.each x (g.met.D.Disk.counts_now new (D.moment mid) x run.later left)))
+    ok_so c.commit.result (file_stays 1 (λ e. absurd (cc e)) (D.may_leave mid) (D.may_leave new) c.args.bytes.now (IsBeforeOrAfter [] name) c.in_ok-lay.ensures.staged (λ x left. run.each x (g.met.D.Disk.counts_now new (D.moment mid) x run.later left)))
 
 pub returns-clause-any_moment : goal.returns-clause-any_moment
 returns-clause-any_moment g c = λ has read unmade.

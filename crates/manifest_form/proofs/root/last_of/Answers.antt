@@ -1,4 +1,4 @@
-use Rattle.std.proofs.Common.{◌≡◌, ◌+◌, ◌++◌, length, [], Some, None, Ok, refl, sym, ap, ◌∙◌, append_assoc, length-append, arith, ◌-◌}
+use Rattle.std.proofs.Common.{length, [], Some, None, Ok, refl, sym, ap, ◌∙◌, ◌-◌}
 use Rattle.std.proofs.lemmas.Result.{err_from_is_err_and}
 use Rattle.manifest_form.specs.Walk.{root_step}
 use Rattle.manifest_form.proofs.Walking.{starts, is_closed, is_damaged, fails, goes_on, is_done, root_good, root_bad}

@@ -1,7 +1,7 @@
 use Rattle.std.proofs.Common.{◌≡◌, ◌≤◌, ◌+◌, length, vec_len}
 use Rattle.std.specs.Vec.{vec_capacity}
 use Rattle.manifest_form.specs.States.{all_done, with_segments}
-use Rattle.manifest_form.proofs.change.do_all.Given as goal
+use Rattle.manifest_form.proofs.change.do_each.Given as goal
 
 abbrev pub invariant-loop-edit : goal.invariant-loop-edit
 invariant-loop-edit l = record {
