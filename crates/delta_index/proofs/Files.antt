@@ -9,7 +9,8 @@ use Rattle.column_block.specs.declared.cell.Version.{Version}
 use Rattle.flash_types.specs.Ranges.{holds}
 use Rattle.flash_types.specs.declared.range.HandleRange.{HandleRange}
 use Rattle.delta_index.specs.Indexes.{Entry, put, entry_of, entries_of, extended, cleared, AreRising}
-use Rattle.delta_index.proofs.Puts.{AreAbove, rising_all, rising_none, own_first}
+use Rattle.delta_index.specs.Chunks.{AreAbove}
+use Rattle.delta_index.proofs.Puts.{rising_all, rising_none, own_first}
 
 enumerate_more : (n : ℕ) (vs : List Version) (v : Version) → enumerate_from n (vs ++ v ∷ []) ≡ enumerate_from n vs ++ (n + length vs, v) ∷ []
 enumerate_more n [] v = let e : n ≡ n + 0 = omega arith in ap (λ m. (m, v) ∷ []) e

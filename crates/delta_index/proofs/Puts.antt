@@ -5,30 +5,25 @@ use Rattle.std.specs.declared.cmp.Ordering.{Ordering}
 use Rattle.std.specs.declared.cmp.Ordering.TheVariants.{Less, Equal, Greater}
 use Rattle.std.specs.Ordering.{match_ordering, ordering_reverse, nat_cmp, int_cmp}
 use Rattle.std.specs.Cmp.{IsTotalOrder, nat_cmp_total, int_cmp_total}
-use Rattle.std.specs.List.{AllByRecursion}
 use Rattle.std.specs.List.Sorted.{IsStrictlySortedBy}
-use Rattle.std.specs.Map.{keys_of}
+use Rattle.delta_index.specs.Chunks.{AreAbove}
 use Rattle.delta_index.specs.Indexes.{Entry, key_cmp, put, AreRising}
 
 pub key_cmp_total : IsTotalOrder key_cmp
 key_cmp_total = then_total {R = λ a b. int_cmp a.0 b.0} {S = λ a b. nat_cmp a.1 b.1} (on_total (λ a. a.0) int_cmp_total) (on_total (λ a. a.1) nat_cmp_total)
-
--- each key is above k
-abbrev pub AreAbove : ℤ × ℕ → List Entry → Type 0
-AreAbove k es = AllByRecursion (λ y. key_cmp k y ≡ Less) (keys_of es)
 
 abbrev pub put_all : List Entry → List Entry → List Entry
 put_all es fs = fold put es fs
 
 -- ---- one comparison told
 
-turned : (k l : ℤ × ℕ) (r : Ordering) → key_cmp k l ≡ r → key_cmp l k ≡ ordering_reverse r
+pub turned : (k l : ℤ × ℕ) (r : Ordering) → key_cmp k l ≡ r → key_cmp l k ≡ ordering_reverse r
 turned k l r is = key_cmp_total.antisymm l k ∙ ap ordering_reverse is
 
-put_by : (e f : Entry) (es : List Entry) (r : Ordering) → key_cmp f.0 e.0 ≡ r → put (e ∷ es) f ≡ match_ordering r (f ∷ e ∷ es) ((e.0, f.1) ∷ es) (e ∷ put es f)
+pub put_by : (e f : Entry) (es : List Entry) (r : Ordering) → key_cmp f.0 e.0 ≡ r → put (e ∷ es) f ≡ match_ordering r (f ∷ e ∷ es) ((e.0, f.1) ∷ es) (e ∷ put es f)
 put_by e f es r is = ap (λ s. match_ordering s (f ∷ e ∷ es) ((e.0, f.1) ∷ es) (e ∷ put es f)) is
 
-above_more : (k l : ℤ × ℕ) (es : List Entry) → key_cmp k l ≡ Less → AreAbove l es → AreAbove k es
+pub above_more : (k l : ℤ × ℕ) (es : List Entry) → key_cmp k l ≡ Less → AreAbove l es → AreAbove k es
 above_more k l [] less a = tt
 above_more k l (e ∷ es) less a = (key_cmp_total.trans k l e.0 less a.0, above_more k l es less a.1)
 

@@ -1,10 +1,13 @@
 // The index.
 ghost use Rattle.std.specs.Prelude.{◌≡◌, ◌<◌, ◌≤◌, [], length, slice_get, Some, IfOk};
 ghost use Rattle.delta_index.specs.Indexes.{extended, cleared, AreRising, IsFirstFrom};
+ghost use Rattle.delta_index.specs.Chunks.{flat};
 
 use crate::Memory;
-use crate::gather::{Entry, IndexRow, gathered};
-use crate::merge::merged;
+use crate::change::{cleared_by, extended_by};
+use crate::chunks::Chunks;
+use crate::gather::{IndexRow, gathered};
+use crate::join::joined;
 use column_block::Block;
 use flash_types::HandleRange;
 use std::alloc::Global;
@@ -15,19 +18,20 @@ use std::marker::Model;
 /// version's handle and timestamp, beside the number of its file and its row there.
 #[derive(Drop)]
 pub struct DeltaIndex {
-    entries: Vec<Entry>,
+    chunks: Chunks,
     alloc: Global,
 }
 
 impl Model for DeltaIndex {
     ghost use Rattle.std.specs.Prelude.{List};
     ghost use Rattle.delta_index.specs.Indexes.{Entry, AreRising};
+    ghost use Rattle.delta_index.specs.Chunks.{flat};
 
     ghost Value = { List Entry };
 
-    ghost view = { λ index. index.entries.items };
+    ghost view = { λ index. flat index.chunks };
 
-    ghost invariant = { λ index. AreRising index.entries.items };
+    ghost invariant = { λ index. AreRising (flat index.chunks) };
 }
 
 impl DeltaIndex {
@@ -37,7 +41,7 @@ impl DeltaIndex {
         ensures { result ≡ [] }
     {
         DeltaIndex {
-            entries: Vec::new(alloc),
+            chunks: Chunks::new(alloc),
             alloc,
         }
     }
@@ -49,9 +53,10 @@ impl DeltaIndex {
         ensures { IfOk result (λ index. index ≡ extended self.now number block.now) }
     {
         let file = gathered(self.alloc, number, block)?;
-        let entries = merged(self.alloc, self.entries.as_slice(), file.as_slice())?;
+        let made = extended_by(self.alloc, &self.chunks, file.as_slice())?;
+        let chunks = joined(self.alloc, made)?;
         Ok(DeltaIndex {
-            entries,
+            chunks,
             alloc: self.alloc,
         })
     }
@@ -61,9 +66,10 @@ impl DeltaIndex {
     pub fn cleared(&self, range: HandleRange) -> Result<DeltaIndex, Memory>
         ensures { IfOk result (λ index. index ≡ cleared self.now range) }
     {
-        let entries = left(self.alloc, self.entries.as_slice(), range)?;
+        let made = cleared_by(self.alloc, &self.chunks, range)?;
+        let chunks = joined(self.alloc, made)?;
         Ok(DeltaIndex {
-            entries,
+            chunks,
             alloc: self.alloc,
         })
     }
@@ -73,7 +79,7 @@ impl DeltaIndex {
     pub fn first_from(&self, handle: i64) -> usize
         ensures { IsFirstFrom handle self.now result }
     {
-        first_from(self.entries.as_slice(), handle)
+        first_from(&self.chunks, handle)
     }
 
     /// The number of versions.
@@ -81,7 +87,19 @@ impl DeltaIndex {
         ensures count { result ≡ length self.now }
         ensures rising { AreRising self.now }
     {
-        self.entries.len()
+        self.chunks.len()
+    }
+
+    /// The number of chunks that the entries are kept in, of 1 to 256 entries each. It is for tests
+    /// and measurements: contracts see no chunks, and so promise nothing of it.
+    pub fn chunk_count(&self) -> usize {
+        self.chunks.count()
+    }
+
+    /// How many of these chunks another index holds too, so that they are kept once. It is for
+    /// tests and measurements: contracts see no chunks, and so promise nothing of it.
+    pub fn shared_chunk_count(&self) -> usize {
+        self.chunks.shared()
     }
 
     /// The version at a place, counted from 0.
@@ -89,7 +107,7 @@ impl DeltaIndex {
         requires { k < length self.now }
         ensures { slice_get self.now k ≡ Some ((result.handle, result.ts), (result.number, result.row)) }
     {
-        let entry = self.entries[k];
+        let entry = self.chunks.at(k);
         IndexRow {
             handle: entry.0.0,
             ts: entry.0.1,
@@ -99,35 +117,16 @@ impl DeltaIndex {
     }
 }
 
-// The entries whose handles the range doesn't hold.
-fn left(alloc: Global, entries: &[Entry], range: HandleRange) -> Result<Vec<Entry>, Memory>
-    ensures { IfOk result (λ left. left.items ≡ cleared entries.now range) }
-{
-    let mut left = Vec::new(alloc);
-    for entry in entries {
-        if !range.holds(entry.0.0) && left.push(*entry).is_err() {
-            return Err(Memory);
-        }
-    }
-    Ok(left)
-}
-
-fn entry_at(entries: &[Entry], k: usize) -> Entry
-    requires { k < length entries.now }
-    ensures { slice_get entries.now k ≡ Some result }
-{
-    entries[k]
-}
-
-fn first_from(entries: &[Entry], handle: i64) -> usize
-    requires { AreRising entries.now }
-    ensures { IsFirstFrom handle entries.now result }
+// The first place whose handle isn't below this one.
+fn first_from(chunks: &Chunks, handle: i64) -> usize
+    requires { AreRising (flat chunks.now) }
+    ensures { IsFirstFrom handle (flat chunks.now) result }
 {
     let mut low = 0;
-    let mut high = entries.len();
+    let mut high = chunks.len();
     while low < high {
         let middle = low + (high - low) / 2;
-        let entry = entry_at(entries, middle);
+        let entry = chunks.at(middle);
         if entry.0.0 < handle {
             low = middle + 1;
         } else {

@@ -1,8 +1,11 @@
 //! An index over the versions of a delta, in order of handle and timestamp.
 #![tactic(auto)]
 
+mod change;
+mod chunks;
 mod gather;
 mod index;
+mod join;
 mod merge;
 
 pub use gather::IndexRow;

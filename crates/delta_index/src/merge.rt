@@ -51,7 +51,7 @@ fn add(all: &mut Vec<Entry>, entry: Entry) -> Result<(), Memory>
     }
 }
 
-fn add_all(all: &mut Vec<Entry>, more: &[Entry]) -> Result<(), Memory>
+pub fn add_all(all: &mut Vec<Entry>, more: &[Entry]) -> Result<(), Memory>
     ensures { OnOk result (all.new.items ≡ all.old.items ++ more.now) }
 {
     match all.extend_from_slice(more) {
