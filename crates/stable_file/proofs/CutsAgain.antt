@@ -20,7 +20,7 @@ use Rattle.stable_file.proofs.ToldAgain.{told_again}
 
 -- ---- a cut of versions that rise
 
-both : (a b : Bool) → (a && b) ≡ true → (a ≡ true) × (b ≡ true)
+pub both : (a b : Bool) → (a && b) ≡ true → (a ≡ true) × (b ≡ true)
 both true b h = (refl, h)
 both false b h = absurd (cc h)
 
@@ -31,7 +31,7 @@ after_take (suc n) v (w ∷ ws) h =
     let p = both (is_before v w) (rise_after w ws) h in
     ap (λ b. b && rise_after w (take n ws)) p.0 ∙ after_take n w ws p.1
 
-rise_take : (n : ℕ) (xs : List Version) → 0 < n → rise xs ≡ true → rise (take n xs) ≡ true
+pub rise_take : (n : ℕ) (xs : List Version) → 0 < n → rise xs ≡ true → rise (take n xs) ≡ true
 rise_take zero xs some h = absurd (omega arith)
 rise_take (suc n) [] some h = h
 rise_take (suc n) (x ∷ xs) some h = after_take n x xs h
@@ -41,17 +41,17 @@ after_drop n v [] lt h = absurd (omega arith)
 after_drop zero v (w ∷ ws) lt h = (both (is_before v w) (rise_after w ws) h).1
 after_drop (suc n) v (w ∷ ws) lt h = after_drop n w ws (omega arith) (both (is_before v w) (rise_after w ws) h).1
 
-rise_drop : (n : ℕ) (xs : List Version) → n < length xs → rise xs ≡ true → rise (drop n xs) ≡ true
+pub rise_drop : (n : ℕ) (xs : List Version) → n < length xs → rise xs ≡ true → rise (drop n xs) ≡ true
 rise_drop zero xs lt h = h
 rise_drop (suc n) [] lt h = absurd (omega arith)
 rise_drop (suc n) (x ∷ xs) lt h = after_drop n x xs (omega arith) h
 
-all_take : {X : Type 0} (P : X → Type 0) (n : ℕ) (xs : List X) → AllByRecursion P xs → AllByRecursion P (take n xs)
+pub all_take : {X : Type 0} (P : X → Type 0) (n : ℕ) (xs : List X) → AllByRecursion P xs → AllByRecursion P (take n xs)
 all_take P zero xs all = tt
 all_take P (suc n) [] all = tt
 all_take P (suc n) (x ∷ xs) all = (all.0, all_take P n xs all.1)
 
-all_drop : {X : Type 0} (P : X → Type 0) (n : ℕ) (xs : List X) → AllByRecursion P xs → AllByRecursion P (drop n xs)
+pub all_drop : {X : Type 0} (P : X → Type 0) (n : ℕ) (xs : List X) → AllByRecursion P xs → AllByRecursion P (drop n xs)
 all_drop P zero xs all = all
 all_drop P (suc n) [] all = tt
 all_drop P (suc n) (x ∷ xs) all = all_drop P n xs all.1
@@ -75,7 +75,7 @@ module _ (columns : List Column) (rows : ℕ) (few : length columns < 2 ^ 16) (s
       let first = one_again columns (take rows xs) few (rise_take rows xs some rises) (all_take (Suits columns) rows xs suits) fits.0 in
       (first, each_again (suc packs) (drop rows xs) left (rise_drop rows xs (omega (arith, sum)) rises) (all_drop (Suits columns) rows xs suits) fits.1)
 
-full_cuts : (packs rows : ℕ) (xs : List Version) → 0 < packs → (packs - 1) * rows < length xs → length xs ≤ packs * rows → AreFull rows (first_cuts packs rows xs)
+pub full_cuts : (packs rows : ℕ) (xs : List Version) → 0 < packs → (packs - 1) * rows < length xs → length xs ≤ packs * rows → AreFull rows (first_cuts packs rows xs)
 full_cuts zero rows xs some reach le = absurd (omega arith)
 full_cuts (suc zero) rows xs some reach le =
     let none : 0 < length xs = omega (arith, reach) in
@@ -108,14 +108,14 @@ cuts_are (suc packs) rows xs le =
     let sum : length xs ≤ packs * rows + rows = subst (λ m. length xs ≤ m) (suc-mul packs rows) le in
     ap (λ (vs : List Version). take rows xs ++ vs) (cuts_are packs rows (drop rows xs) (omega (arith, sum, length-drop rows xs))) ∙ take-append-drop rows xs
 
-enough : (n rows : ℕ) → 0 < rows → n ≤ ((n - 1) / rows + 1) * rows
+pub enough : (n rows : ℕ) → 0 < rows → n ≤ ((n - 1) / rows + 1) * rows
 enough n rows some =
     let k : (n - 1) / rows + 1 ≡ suc ((n - 1) / rows) = omega arith in
     let parts = div-add-mod' (n - 1) rows in
     let small = mod-lt (n - 1) some in
     subst (λ m. n ≤ m) (sym (ap (λ q. q * rows) k ∙ suc-mul ((n - 1) / rows) rows)) (omega (arith, parts, small))
 
-some_rise : (xs : List Version) → rise xs ≡ true → 0 < length xs
+pub some_rise : (xs : List Version) → rise xs ≡ true → 0 < length xs
 some_rise [] h = absurd (cc h)
 some_rise (x ∷ xs) h = omega arith
 

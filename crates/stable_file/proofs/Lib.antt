@@ -2,5 +2,10 @@ pub mod Going
 pub mod Rising
 pub mod BuildSteps
 mod ToldAgain
+mod NumbersAgain
+mod RangesAgain
 mod CutsAgain
+mod OrderAgain
+mod EntriesAgain
+mod TailAgain
 pub mod Outside

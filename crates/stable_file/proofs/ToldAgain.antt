@@ -31,13 +31,13 @@ first_fit column columns (cell.Int n ∷ cells) h is = absurd (cc (h.0, is))
 first_fit column columns (cell.Uint n ∷ cells) h is = absurd (cc (h.0, is))
 
 -- a version has cells for these columns from place k on, or it is gone
-abbrev FitsFrom : ℕ → List Column → Bool → List Cell → Type 0
+abbrev pub FitsFrom : ℕ → List Column → Bool → List Cell → Type 0
 FitsFrom k columns gone cells = elim gone as (λ _. Type 0) [ true ↦ cells ≡ [] | false ↦ CellsFit columns (drop k cells) ]
 
-abbrev SuitsFrom : ℕ → List Column → Version → Type 0
+abbrev pub SuitsFrom : ℕ → List Column → Version → Type 0
 SuitsFrom k columns v = FitsFrom k columns v.gone v.cells
 
-no_cell : (k : ℕ) → get_or [] k cell.Null ≡ cell.Null
+pub no_cell : (k : ℕ) → get_or [] k cell.Null ≡ cell.Null
 no_cell zero = refl
 no_cell (suc k) = refl
 
@@ -51,7 +51,7 @@ cell_here false k column columns cells h is =
     let sum : k + 0 ≡ k = omega arith in
     ap (with_cell Empty) (ap (λ n. get_or cells n cell.Null) (sym sum) ∙ sym (get_or-drop k cells 0 cell.Null)) ∙ first_fit column columns (drop k cells) h is
 
-all_next : (k : ℕ) (column : Column) (columns : List Column) (versions : List Version) → AllByRecursion (SuitsFrom k (column ∷ columns)) versions → AllByRecursion (SuitsFrom (k + 1) columns) versions
+pub all_next : (k : ℕ) (column : Column) (columns : List Column) (versions : List Version) → AllByRecursion (SuitsFrom k (column ∷ columns)) versions → AllByRecursion (SuitsFrom (k + 1) columns) versions
 all_next k column columns [] all = tt
 all_next k column columns (v ∷ versions) all = (cells_next v.gone k column columns v.cells all.0, all_next k column columns versions all.1)
 

@@ -1,5 +1,5 @@
 -- What is written is read again.
-use Rattle.std.specs.Prelude.{◌≡◌, ℕ, ◌+◌, ◌-◌, ◌<◌, ◌≤◌, ◌^◌, List, [], ◌∷◌, true, length, Ok}
+use Rattle.std.specs.Prelude.{◌≡◌, ℕ, ◌+◌, ◌-◌, ◌<◌, ◌≤◌, ◌^◌, List, [], ◌∷◌, true, length, drop, Ok}
 use Rattle.std.specs.List.{AllByRecursion, flat_map}
 use Rattle.column_block.specs.declared.column.Column.{Column}
 use Rattle.column_block.specs.declared.column.Kind.{Kind}
@@ -11,7 +11,8 @@ use Rattle.pack_codec.specs.Spelling.{pack, PackFits, Suits}
 use Rattle.stable_file.specs.declared.pack.Pack.{Pack}
 use Rattle.stable_file.specs.Packs.{rise, versions_in}
 use Rattle.stable_file.specs.Ranges.{range_with, handle_at, told_at, told_in}
-use Rattle.stable_file.specs.Building.{cuts, file}
+use Rattle.stable_file.specs.Building.{cuts, file, FileFits}
+use Rattle.stable_file.specs.Footer.{tail_at}
 
 -- The pack of some versions is read as these versions, wherever it stands.
 abbrev pub IsReadAgain : List Column → List Version → Type 0
@@ -39,6 +40,11 @@ told columns place versions = record {
   high = handle_at versions (length versions - 1);
   ranges = ranges_told columns 0 versions;
 }
+
+-- the packs of these versions, one behind the other from this place on
+abbrev pub packs_told : List Column → ℕ → List (List Version) → List Pack
+packs_told columns place [] = []
+packs_told columns place (cut ∷ others) = told columns place cut ∷ packs_told columns (place + length (pack columns cut)) others
 
 -- The pack of some versions has what its entry tells, wherever it stands.
 abbrev pub IsAsTold : List Column → List Version → Type 0
@@ -69,3 +75,12 @@ pub record PacksHave (columns : List Column) (rows : ℕ) (versions : List Versi
 abbrev pub BuiltPacksAreReadAgain : Type 0
 BuiltPacksAreReadAgain = (columns : List Column) (rows : ℕ) (versions : List Version) → length columns < 2 ^ 16 → 0 < rows → rise versions ≡ true → AllByRecursion (Suits columns) versions → AllByRecursion (PackFits columns) (cuts rows versions)
     → PacksHave columns rows versions
+
+-- The file's footer is read as the packs that it has: from the whole file, and from its last bytes where they begin nowhere behind the packs.
+pub record FooterTells (columns : List Column) (rows : ℕ) (versions : List Version) : Type 0 where
+  pub whole : tail_at (length (file columns rows versions)) columns (file columns rows versions) ≡ Ok (packs_told columns 4 (cuts rows versions))
+  pub tail : (from : ℕ) → from ≤ 4 + length (flat_map (pack columns) (cuts rows versions)) → tail_at (length (file columns rows versions)) columns (drop from (file columns rows versions)) ≡ Ok (packs_told columns 4 (cuts rows versions))
+
+-- So it is where these versions and the file have no numbers that don't fit.
+abbrev pub BuiltFootersAreReadAgain : Type 0
+BuiltFootersAreReadAgain = (columns : List Column) (rows : ℕ) (versions : List Version) → 0 < rows → rows < 2 ^ 32 → rise versions ≡ true → AllByRecursion (Suits columns) versions → FileFits columns rows versions → FooterTells columns rows versions

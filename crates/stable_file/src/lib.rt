@@ -14,7 +14,7 @@ mod write;
 
 pub use fault::ReadError;
 pub use file::{StableFile, attach};
-pub use laws::built_packs_are_read_again;
+pub use laws::{built_footers_are_read_again, built_packs_are_read_again};
 pub use pack::Pack;
 pub use read::{open, read_pack};
 pub use versions::pack_of;

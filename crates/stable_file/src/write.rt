@@ -253,9 +253,10 @@ fn put_file(
 /// tells of each pack its first and last handle, and the least and the greatest number of each
 /// column of numbers, nulls aside.
 ///
-/// The packs are read again as the same versions (`built_packs_are_read_again`) where these suit the
-/// schema: one that is gone has no cells, and any other has one for each column, null or of the
-/// column's kind. A cell that is missing or of another kind is written as null.
+/// The packs are read again as the same versions (`built_packs_are_read_again`), and the footer as
+/// these packs (`built_footers_are_read_again`), where the versions suit the schema: one that is gone
+/// has no cells, and any other has one for each column, null or of the column's kind. A cell that is
+/// missing or of another kind is written as null.
 ///
 /// For want of memory `into` is as it was.
 pub fn build(
