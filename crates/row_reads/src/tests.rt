@@ -125,7 +125,9 @@ fn read(
         schema: &schema,
         entries,
     };
-    let reply = answer(alloc, &log, ask, None, set, 0, mark).ok().ok_or("memory")?;
+    let reply = answer(alloc, &log, ask, None, set, 0, mark)
+        .ok()
+        .ok_or("memory")?;
     Ok(reply)
 }
 
@@ -160,9 +162,21 @@ fn a_lock_that_may_commit_is_in_the_way(rt: HostRuntime) -> Result<(), Fail> {
         let op = lock(alloc, 5, kind)?;
         let entries = vec![in alloc; open_all(), write(alloc, 6, op)?]?;
         let set = [true, true];
-        let before = read(alloc, &entries, &ask(alloc, 7, asked(1, 1, 1, 5), ALL)?, &set, 0)?;
+        let before = read(
+            alloc,
+            &entries,
+            &ask(alloc, 7, asked(1, 1, 1, 5), ALL)?,
+            &set,
+            0,
+        )?;
         assert_eq!(rt; shown(&before), Some((6, 0)));
-        let at = read(alloc, &entries, &ask(alloc, 8, asked(1, 1, 1, 5), ALL)?, &set, 0)?;
+        let at = read(
+            alloc,
+            &entries,
+            &ask(alloc, 8, asked(1, 1, 1, 5), ALL)?,
+            &set,
+            0,
+        )?;
         let why = Refusal::Locked {
             region: 1,
             index: 6,
@@ -184,7 +198,13 @@ fn a_region_is_read_by_its_epoch_and_index(rt: HostRuntime) -> Result<(), Fail> 
     ]?;
     let all = [true, true, true];
     let first = [true];
-    let old = read(alloc, &entries, &ask(alloc, 10, asked(1, 1, 1, 5), ALL)?, &all, 0)?;
+    let old = read(
+        alloc,
+        &entries,
+        &ask(alloc, 10, asked(1, 1, 1, 5), ALL)?,
+        &all,
+        0,
+    )?;
     let why = Refusal::EpochNotMatch {
         region: 1,
         index: 7,
@@ -194,14 +214,26 @@ fn a_region_is_read_by_its_epoch_and_index(rt: HostRuntime) -> Result<(), Fail> 
         }),
     };
     assert_eq!(rt; refusal_of(&old), Some(why));
-    let unborn = read(alloc, &entries, &ask(alloc, 10, asked(2, 1, 2, 5), ALL)?, &first, 0)?;
+    let unborn = read(
+        alloc,
+        &entries,
+        &ask(alloc, 10, asked(2, 1, 2, 5), ALL)?,
+        &first,
+        0,
+    )?;
     let why = Refusal::NotYet {
         region: 2,
         applied: None,
         wants: Wants::Index(5),
     };
     assert_eq!(rt; refusal_of(&unborn), Some(why));
-    let late = read(alloc, &entries, &ask(alloc, 10, asked(1, 1, 2, 9), ALL)?, &all, 0)?;
+    let late = read(
+        alloc,
+        &entries,
+        &ask(alloc, 10, asked(1, 1, 2, 9), ALL)?,
+        &all,
+        0,
+    )?;
     let why = Refusal::NotYet {
         region: 1,
         applied: Some(7),
@@ -253,7 +285,9 @@ fn no_read_is_below_the_safe_point(rt: HostRuntime) -> Result<(), Fail> {
     let below = ask(alloc, 99, asked(1, 1, 1, 5), ALL)?;
     let why = Refusal::BelowSafePoint { safe_point: 100 };
     assert_eq!(rt; refused(alloc, &log, &below, &all, 100, 0), Ok(Some(why)));
-    let reply = answer(alloc, &log, &at, None, &all, 100, 0).ok().ok_or("memory")?;
+    let reply = answer(alloc, &log, &at, None, &all, 100, 0)
+        .ok()
+        .ok_or("memory")?;
     assert_eq!(rt; shown(&reply), Some((7, 0)));
     Ok(())
 }
@@ -277,9 +311,21 @@ fn an_install_begins_anew(rt: HostRuntime) -> Result<(), Fail> {
         entry(9, 20, install),
     ]?;
     let all = [true; 4];
-    let new = read(alloc, &entries, &ask(alloc, 10, asked(9, 3, 4, 20), ALL)?, &all, 0)?;
+    let new = read(
+        alloc,
+        &entries,
+        &ask(alloc, 10, asked(9, 3, 4, 20), ALL)?,
+        &all,
+        0,
+    )?;
     assert_eq!(rt; shown(&new), Some((20, 1)));
-    let gone = read(alloc, &entries, &ask(alloc, 10, asked(1, 1, 1, 5), ALL)?, &all, 0)?;
+    let gone = read(
+        alloc,
+        &entries,
+        &ask(alloc, 10, asked(1, 1, 1, 5), ALL)?,
+        &all,
+        0,
+    )?;
     let why = Refusal::EpochNotMatch {
         region: 1,
         index: 7,
