@@ -1,4 +1,7 @@
 // The happy paths of the calls that take memory.
+ghost use Rattle.std.specs.Prelude.{◌≡◌};
+ghost use Rattle.region_state.specs.State.{born};
+
 use crate::Region;
 use column_block::{Column, Kind, Schema};
 use committed_log::FamilyOp;
@@ -6,7 +9,9 @@ use flash_types::{Epoch, HandleRange};
 use std::alloc::Global;
 use std::test::Fail;
 
-fn region(alloc: Global, low: i64, high: Option<i64>) -> Region {
+fn region(alloc: Global, low: i64, high: Option<i64>) -> Region
+    ensures { result ≡ born (record { low = low; high = high }) (record { conf_ver = 1; version = 1 }) 5 }
+{
     let epoch = Epoch {
         conf_ver: 1,
         version: 1,
