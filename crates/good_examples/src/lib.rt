@@ -7,8 +7,8 @@ mod runs;
 mod weakened;
 
 pub use runs::{
-    checkpoints_stay_good, crash_keeps_mark, puts_stay_good, removals_stay_good, segments_stay_good,
-    wrong_replicas_are_refused,
+    checkpoints_stay_good, crash_keeps_mark, puts_stay_good, removals_stay_good,
+    segments_stay_good, wrong_replicas_are_refused,
 };
 pub use weakened::{
     checks_need_their_handles, collections_need_the_safe_point, fronts_need_the_mark,
