@@ -1,6 +1,6 @@
 // The ops of a Write or an Install. Their bytes are copied once, and each key and value is cut
 // from that copy.
-ghost use Rattle.std.specs.Prelude.{◌≡◌, ◌≤◌, ◌<◌, length, drop, IfOk};
+ghost use Rattle.std.specs.Prelude.{◌≡◌, ◌≤◌, ◌<◌, length, drop, [], IfOk};
 ghost use Rattle.std.specs.Int.{w32};
 ghost use Rattle.flash_list.specs.Steps.{seen};
 ghost use Rattle.flash_list.specs.Fields.{number_at};
@@ -12,7 +12,7 @@ use crate::entry::{Family, Op, OpBytes, Ops};
 use crate::fault::FrameError;
 use crate::field::{passes, u8_in};
 use flash_list::{Items, u16_or, u32_or};
-use std::alloc::Global;
+use std::alloc::{AllocError, Global};
 
 /// A count and so many ops, of the kinds up to `most`: 1 is a put, and 2 a delete.
 #[tactic(auto, unfolding(crate::specs::Frames::ops_at))]
@@ -35,7 +35,10 @@ fn each_of(
 ) -> Result<Ops, FrameError>
     ensures { Gives (λ ops. (ops, bytes.new)) result (each_op_at end most count bytes.old) }
 {
-    let mut ops = Items::new(alloc);
+    let mut ops = match list_for(alloc, count, bytes.len()) {
+        Ok(ops) => ops,
+        Err(_no_memory) => return Err(FrameError::Memory),
+    };
     for _ in 0..count {
         let op = op_of(end, most, bytes)?;
         let Ok(()) = ops.push(op) else {
@@ -43,6 +46,16 @@ fn each_of(
         };
     }
     Ok(ops)
+}
+
+// An empty list with room for so many ops, as far as bytes of this number can hold them: most
+// entries have one or two. It has no room for more than a thousand before they are read.
+fn list_for(alloc: Global, count: u32, len: usize) -> Result<Ops, AllocError>
+    ensures { IfOk result (λ ops. ops ≡ []) }
+{
+    let room = (count as usize).min(len / 4).min(1024);
+    let list = Vec::with_capacity(alloc, room)?;
+    Ok(Items::from_vec(list))
 }
 
 #[tactic(auto, unfolding(crate::specs::Frames::op_at))]
