@@ -31,7 +31,7 @@ pub disjoint_from : (old new : List (ℕ × Region)) (from : ℕ → ℤ → ℕ
     ((q r : ℕ) (h : ℤ) → owns new q h ≡ true → owns new r h ≡ true → from q h ≡ from r h → q ≡ r) → AreDisjoint old → AreDisjoint new
 disjoint_from old new from each same d = record { one = λ q r h a b. same q r h a b (d.one (from q h) (from r h) h (each q h a) (each r h b)) }
 
-by_number : {P : Type 0} (q k : ℕ) → (q ≡ k → nat_eq q k ≡ true → P) → (q ≢ k → nat_eq q k ≡ false → P) → P
+pub by_number : {P : Type 0} (q k : ℕ) → (q ≡ k → nat_eq q k ≡ true → P) → (q ≢ k → nat_eq q k ≡ false → P) → P
 by_number {P} q k here there = elim (nat_eq q k) as (λ b. nat_eq q k ≡ b → P) [ true ↦ λ e. here (exact_unsigned_eq q k e) e | false ↦ λ e. there (λ s. absurd (clash (sym (eq-eqb q k s) ∙ e))) e ] refl
   where
     clash : true ≡ false → ⊥

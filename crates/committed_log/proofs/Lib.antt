@@ -15,6 +15,9 @@ pub mod Ranks
 pub mod Places
 pub mod Longer
 pub mod NextPositions
+mod NextLists
+mod LeastTaken
+mod LowEnds
 pub mod RepeatedPlaces
 mod Options
 pub mod Undo

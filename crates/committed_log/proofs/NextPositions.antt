@@ -7,15 +7,15 @@ use Rattle.flash_types.specs.declared.range.HandleRange.{HandleRange}
 use Rattle.log_codec.specs.declared.entry.Entry.{Entry}
 use Rattle.log_codec.specs.declared.entry.Body.{Body}
 use Rattle.log_codec.specs.declared.entry.Body.TheVariants as body
-use Rattle.committed_log.specs.Admission.{other_fault, is_unborn, is_prepared_for, head_fault, ops_fault}
+use Rattle.committed_log.specs.Admission.{other_fault, is_unborn, is_prepared_for}
 use Rattle.committed_log.specs.Applied.{acts_at, left_at, has_index, place, next_of, first_numbers, positions}
-use Rattle.committed_log.specs.Lawful.{IsLawful, fault, pushed}
+use Rattle.committed_log.specs.Lawful.{IsLawful, pushed}
 use Rattle.committed_log.specs.Laws.{region_at, IsLastActing}
 use Rattle.committed_log.specs.Log.{Log, end}
 use Rattle.committed_log.specs.Nexts.{is_there_at, goes_on}
 use Rattle.committed_log.specs.Regions.{Region, Unborn, Live, Prepared, Gone, region, range_of, index_of, acts_on, also_acted}
 use Rattle.committed_log.specs.Store.{Store}
-use Rattle.committed_log.proofs.Faults.{both_true, both_none, or_either, is_unborn_is, IsFine, head_is_fine}
+use Rattle.committed_log.proofs.Faults.{both_true, or_either, is_unborn_is, IsFine}
 use Rattle.committed_log.proofs.Longer.{left_same, entry_same, place_same}
 use Rattle.committed_log.proofs.Owners.{tested}
 use Rattle.committed_log.proofs.Places.{last_acting_is, rank_of_index}
@@ -217,18 +217,3 @@ module _ (log : Log) (lawful : IsLawful log) (r i : ℕ) where
             ∙ picks (length log.entries) (find (λ q. nat_lt p q && acts_at log r q) (positions log)) (acts_on r e) (is_there_at i (region (end log).regions r))
             (λ acts there. sym next ∙ fresh there) (λ acts there none. passed p is there none e fine acts)
             ∙ ap (λ o. cond (goes_on (end log).regions e r i) (Some (length log.entries)) o) (sym next)
-
--- ---- what is noted of an entry, and taken out again
-
-module _ (log : Log) (lawful : IsLawful log) (e : Entry) (old : ℕ → ℕ → Option ℕ) (told : (r i : ℕ) → old r i ≡ next_of log r i) (regions : List (ℕ × Region)) (same : regions ≡ (end log).regions) where
-  pub noted : fault log e ≡ None → (r i : ℕ) → cond (goes_on regions e r i) (Some (length log.entries)) (old r i) ≡ next_of (pushed log e) r i
-  noted none r i =
-      let fine = head_is_fine (length log.entries) (end log).regions e (both_none (head_fault (length log.entries) (end log).regions e) (ops_fault log.table log.schema (length log.entries) (end log) e.region e.body) none).0 in
-      (λ j. cond (goes_on (same j) e r i) (Some (length log.entries)) (told r i j)) ∙ sym (next_push log lawful r i e fine)
-
-  pub forgotten : (after : List (ℕ × Region)) → after ≡ (end log).regions → (r i : ℕ) → cond (goes_on after e r i) None (cond (goes_on regions e r i) (Some (length log.entries)) (old r i)) ≡ next_of log r i
-  forgotten after is r i = (λ j. cond (goes_on (is j) e r i) None (cond (goes_on (same j) e r i) (Some (length log.entries)) (told r i j))) ∙ by (goes_on (end log).regions e r i) refl
-    where
-      by : (b : Bool) → goes_on (end log).regions e r i ≡ b → cond b None (cond b (Some (length log.entries)) (next_of log r i)) ≡ next_of log r i
-      by true goes = sym (fresh log lawful r i (both_true (acts_on r e) (is_there_at i (region (end log).regions r)) goes).1)
-      by false goes = refl

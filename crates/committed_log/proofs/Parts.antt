@@ -1,5 +1,5 @@
 -- The first entry of a map from a handle on.
-use Rattle.std.proofs.Common.{◌≡◌, ◌∙◌, refl, sym, ap, subst, ℕ, zero, suc, ℤ, true, false, true≢false, List, [], ◌∷◌, Option, Some, None, IsSome, int_le, arith}
+use Rattle.std.proofs.Common.{◌≡◌, ◌∙◌, refl, sym, ap, subst, ℕ, zero, suc, ℤ, true, false, true≢false, List, [], ◌∷◌, ◌++◌, Option, Some, None, IsSome, int_le, arith}
 use Rattle.std.proofs.lemmas.Int.{ints}
 use Rattle.std.specs.BTreeMap.{BTreeMap, get}
 use Rattle.std.specs.BTreeMap.Range.{IsRangeOf, IsEntryInRange, IsInRange, IsLeBy}
@@ -9,8 +9,9 @@ use Rattle.std.specs.declared.ops.Bound.{Bound}
 use Rattle.std.specs.declared.ops.Bound.TheVariants.{Included, Unbounded}
 use Rattle.std.specs.declared.cmp.Ordering.{Ordering}
 use Rattle.std.specs.declared.cmp.Ordering.TheVariants.{Less, Equal, Greater}
-use Rattle.std.specs.Ordering.{int_cmp, nat_cmp, is_gt, ordering_then}
+use Rattle.std.specs.Ordering.{int_cmp, nat_cmp, is_gt, is_lt, ordering_then}
 use Rattle.flash_types.specs.Ranges.{holds, is_below}
+use Rattle.committed_log.specs.Lows.{IsLastBelow}
 use Rattle.committed_log.specs.Store.{value_cmp}
 use Rattle.committed_log.proofs.Faults.{both_true}
 
@@ -76,3 +77,15 @@ module _ {X : Type 0} (m : BTreeMap (ℤ × ℕ) X) (l low : ℤ) (high : Option
 
   pub no_pair : r ≡ [] → (h : ℤ) (s : ℕ) → holds (record { low = low; high = high }) h ≡ true → get value_cmp m (h, s) ≡ None
   no_pair none h s inside = none_there value_cmp (Included (l, 0)) Unbounded m r is none (h, s) (pairs_from_low h s inside)
+
+-- the last entry that isn't above a handle
+lt_le : (k g : ℤ) → is_lt (int_cmp k g) ≡ false → int_le g k ≡ true
+lt_le k g e = grind (arith, ints)
+
+module _ (m : BTreeMap ℤ ℕ) (b handle : ℤ) (same : b ≡ handle) (r : List (ℤ × ℕ)) (is : IsRangeOf int_cmp Unbounded (Included b) m r) where
+  pub last_below : (k : ℤ) (v : ℕ) (rest : List (ℤ × ℕ)) → r ≡ rest ++ (k, v) ∷ [] → IsLastBelow (get int_cmp m) handle k v
+  last_below k v rest steps = record {
+    below = ap (int_le k) (sym same) ∙ gt_le k b (is.3 (k, v) rest steps).0.1;
+    there = (is.3 (k, v) rest steps).1;
+    last = λ g below some. lt_le k g (is.4 (k, v) rest steps g (tt, le_gt g b (ap (int_le g) same ∙ below)) some);
+  }

@@ -129,7 +129,7 @@ module _ (regions : List (ℕ × Region)) (r i : ℕ) where
   born_rises (body.Write ops) e = absurd (true≢false (sym e))
   born_rises body.Empty e = absurd (true≢false (sym e))
 
-  born_also : (q : ℕ) (b : Body) → makes_region b ≡ true → list_any (λ acted. acted == q) (also_acted b) ≡ true → ⊥
+  pub born_also : (q : ℕ) (b : Body) → makes_region b ≡ true → list_any (λ acted. acted == q) (also_acted b) ≡ true → ⊥
   born_also q (body.Open conf_ver version low high) m e = true≢false (sym e)
   born_also q (body.Install conf_ver version low high ops) m e = true≢false (sym e)
   born_also q (body.Split at child) m e = true≢false (sym m)

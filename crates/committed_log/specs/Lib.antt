@@ -19,3 +19,4 @@ pub mod ReadIndex
 pub mod Digest
 pub mod Owned
 pub mod Nexts
+pub mod Lows

@@ -1,11 +1,14 @@
 // The checks of an entry that need no op.
 ghost use Rattle.std.specs.Prelude.{◌≡◌, ◌<◌, ◌-◌, ◌^◌, Some, unwrap_or, if◌then◌else◌};
-ghost use Rattle.std.specs.BTreeMap.{values};
+ghost use Rattle.std.specs.BTreeMap.{get};
+ghost use Rattle.std.specs.Ordering.{int_cmp};
 ghost use Rattle.flash_types.specs.Ranges.{is_below};
-ghost use Rattle.committed_log.specs.Admission.{head_fault, own_fault, other_fault, index_fault, range_fault, birth_fault, merge_fault, split_fault, least_taken, least_common, taken_by, lesser, unless, is_live, is_unborn, is_prepared_for, state_of, touch};
+ghost use Rattle.committed_log.specs.Admission.{head_fault, own_fault, other_fault, index_fault, range_fault, birth_fault, merge_fault, split_fault, unless, is_live, is_unborn, is_prepared_for, state_of, touch};
+ghost use Rattle.committed_log.specs.Lows.{AreLows, AreParted};
 ghost use Rattle.committed_log.specs.Regions.{region, range_of, index_of, ends_at, makes_region};
 ghost use Rattle.committed_log.specs.declared.unlawful.Unlawful.TheVariants as unlawful;
 
+use crate::lows::{Lows, find_least_taken};
 use crate::region::Region;
 use crate::unlawful::{RegionState, Unlawful};
 use flash_types::{Handle, HandleRange, RegionId};
@@ -147,17 +150,6 @@ pub fn is_below_end(handle: Handle, high: Option<Handle>) -> bool
     }
 }
 
-fn least_common_of(a: HandleRange, b: HandleRange) -> Option<Handle>
-    ensures { result ≡ least_common a b }
-{
-    let low = if a.low <= b.low { b.low } else { a.low };
-    if a.holds(low) && b.holds(low) {
-        Some(low)
-    } else {
-        None
-    }
-}
-
 /// The handles that a region has.
 pub fn range_of_region(region: Region) -> Option<HandleRange>
     ensures { result ≡ range_of region }
@@ -170,43 +162,15 @@ pub fn range_of_region(region: Region) -> Option<HandleRange>
     }
 }
 
-fn lesser_of(a: Option<Handle>, b: Option<Handle>) -> Option<Handle>
-    ensures { result ≡ lesser a b }
-{
-    match (a, b) {
-        (None, h) => h,
-        (Some(g), None) => Some(g),
-        (Some(g), Some(h)) => { if g <= h { Some(g) } else { Some(h) } }
-    }
-}
-
-fn taken_by_region(range: HandleRange, region: Region) -> Option<Handle>
-    ensures { result ≡ taken_by range region }
-{
-    match range_of_region(region) {
-        Some(other) => least_common_of(range, other),
-        None => None,
-    }
-}
-
-/// The least handle of the range that a region has.
-pub fn find_least_taken(regions: &Regions, range: HandleRange) -> Option<Handle>
-    ensures { result ≡ least_taken range (values regions.now) }
-{
-    let mut least = None;
-    for region in regions.values() {
-        least = lesser_of(least, taken_by_region(range, *region));
-    }
-    least
-}
-
-fn find_birth_fault(regions: &Regions, range: HandleRange) -> Option<Unlawful>
+fn find_birth_fault(regions: &Regions, lows: &Lows, range: HandleRange) -> Option<Unlawful>
+    requires parted { AreParted regions.now.entries }
+    requires lows { AreLows (get int_cmp lows.now) regions.now.entries }
     ensures { result ≡ birth_fault regions.now.entries range }
 {
     if !is_below_end(range.low, range.high) {
         return Some(Unlawful::Range { handle: range.low });
     }
-    match find_least_taken(regions, range) {
+    match find_least_taken(regions, lows, range) {
         Some(handle) => Some(Unlawful::Range { handle }),
         None => None,
     }
@@ -251,12 +215,15 @@ fn find_split_fault(regions: &Regions, id: RegionId, at: Handle) -> Option<Unlaw
     }
 }
 
-fn find_range_fault(regions: &Regions, id: RegionId, body: &Body) -> Option<Unlawful>
+fn find_range_fault(regions: &Regions, lows: &Lows, id: RegionId, body: &Body) -> Option<Unlawful>
+    requires parted { AreParted regions.now.entries }
+    requires lows { AreLows (get int_cmp lows.now) regions.now.entries }
     ensures { result ≡ range_fault regions.now.entries id body.now }
 {
     match body {
         Body::Open { low, high, .. } => find_birth_fault(
             regions,
+            lows,
             HandleRange {
                 low: *low,
                 high: *high,
@@ -264,6 +231,7 @@ fn find_range_fault(regions: &Regions, id: RegionId, body: &Body) -> Option<Unla
         ),
         Body::Install { low, high, .. } => find_birth_fault(
             regions,
+            lows,
             HandleRange {
                 low: *low,
                 high: *high,
@@ -277,8 +245,15 @@ fn find_range_fault(regions: &Regions, id: RegionId, body: &Body) -> Option<Unla
 }
 
 /// What is wrong with an entry at a position but for its ops.
-pub fn find_head_fault(regions: &Regions, position: u64, entry: &Entry) -> Option<Unlawful>
-    requires { unwrap_or (index_of (region regions.now.entries entry.now.region)) 0 < 2 ^ 63 }
+pub fn find_head_fault(
+    regions: &Regions,
+    lows: &Lows,
+    position: u64,
+    entry: &Entry,
+) -> Option<Unlawful>
+    requires parted { AreParted regions.now.entries }
+    requires lows { AreLows (get int_cmp lows.now) regions.now.entries }
+    requires room { unwrap_or (index_of (region regions.now.entries entry.now.region)) 0 < 2 ^ 63 }
     ensures { result ≡ head_fault position regions.now.entries entry.now }
 {
     if position >= MOST_ENTRIES {
@@ -293,5 +268,5 @@ pub fn find_head_fault(regions: &Regions, position: u64, entry: &Entry) -> Optio
     if let Some(fault) = find_index_fault(regions, entry) {
         return Some(fault);
     }
-    find_range_fault(regions, entry.region, &entry.body)
+    find_range_fault(regions, lows, entry.region, &entry.body)
 }

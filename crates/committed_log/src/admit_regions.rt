@@ -74,7 +74,7 @@ fn upper(there: Descriptor, at: Handle) -> Descriptor
     }
 }
 
-fn joined(a: HandleRange, b: HandleRange) -> HandleRange
+pub fn joined(a: HandleRange, b: HandleRange) -> HandleRange
     ensures { result ≡ joined_range a b }
 {
     if ends_at_handle(a, b.low) {

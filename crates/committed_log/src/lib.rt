@@ -14,6 +14,7 @@ mod families;
 pub mod laws;
 mod logs;
 mod lookups;
+mod lows;
 mod nexts;
 mod op;
 mod region;

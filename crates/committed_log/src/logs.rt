@@ -5,14 +5,16 @@ ghost use Rattle.committed_log.specs.Digest.{chain, extended_by};
 ghost use Rattle.committed_log.specs.Lawful.{IsLawful, IsRefusal, IsWritable, fault, pushed};
 ghost use Rattle.committed_log.specs.Log.{Log, end};
 ghost use Rattle.committed_log.specs.Numbers.{AreRoomy};
+ghost use Rattle.committed_log.specs.Regions.{region as region_in};
 ghost use Rattle.committed_log.specs.Repeats.{repeats};
 ghost use Rattle.committed_log.specs.declared.unlawful.Unlawful.TheVariants as unlawful;
 
-use crate::admit_head::MOST_ENTRIES;
+use crate::admit_head::{MOST_ENTRIES, region_of};
 use crate::chains::extended_over;
 use crate::digest::begun;
 use crate::lookups::{Lookups, admit_next, empty_lookups, repeats_at};
 use crate::nexts::find_next;
+use crate::region::Region;
 use crate::unlawful::Unlawful;
 use column_block::Schema;
 use flash_types::RegionId;
@@ -133,6 +135,13 @@ impl Logs {
         ensures { result ≡ next_of self.now region index }
     {
         find_next(&self.lookups.nexts, region, index)
+    }
+
+    /// The state in which the last entry leaves a region.
+    pub fn region_at_end(&self, region: RegionId) -> Region
+        ensures { result ≡ region_in (end self.now).regions region }
+    {
+        region_of(&self.lookups.tables.regions, region)
     }
 
     /// Whether the op at a place of an entry is a record that admission passed because it says again

@@ -1,6 +1,6 @@
 // The tables that admission looks up: the store at the log's end, as far as admission needs it.
 ghost use Rattle.std.specs.Prelude.{[], ◌≡◌, ◌<◌, ◌^◌, ℤ, true, IfErr, OnErr, OnOk, None, length};
-ghost use Rattle.committed_log.specs.Admission.{fault_at, ops_fault_from};
+ghost use Rattle.committed_log.specs.Admission.{fault_at, head_fault, ops_fault_from};
 ghost use Rattle.committed_log.specs.Families.{Holds, Returns, IsSettled};
 ghost use Rattle.committed_log.specs.Lawful.{IsRefusal, IsWritable};
 ghost use Rattle.committed_log.specs.Numbers.{AreRoomy};
@@ -12,7 +12,7 @@ ghost use Rattle.committed_log.specs.Repeats.{repeated_from, repeated_in};
 ghost use Rattle.committed_log.specs.Tables.{Follows};
 ghost use Rattle.committed_log.specs.declared.unlawful.Unlawful.TheVariants as unlawful;
 
-use crate::admit_head::{Regions, find_head_fault, range_of_region, region_of};
+use crate::admit_head::{Regions, range_of_region, region_of};
 use crate::admit_ops::admit_ops;
 use crate::admit_regions::step_regions;
 use crate::clearing::clear_range;
@@ -176,8 +176,9 @@ fn admit_remove(tables: &mut Tables, entry: &Entry, range: HandleRange) -> Resul
     }
 }
 
-/// Admits the entry that is to follow these, and does it, or leaves the tables as they are. The
-/// places of its ops that say again what their row's last commit says are put into `repeated`.
+/// Admits the entry that is to follow these, whose head has no fault, and does it, or leaves the
+/// tables as they are. The places of its ops that say again what their row's last commit says are
+/// put into `repeated`.
 pub fn admit_entry(
     tables: &mut Tables,
     table: i64,
@@ -192,6 +193,7 @@ pub fn admit_entry(
     requires lies { LiesInRegions store }
     requires writable { IsWritable entry.now }
     requires none { repeated.old.items ≡ [] }
+    requires head { head_fault (length earlier.now) store.regions entry.now ≡ None }
     ensures repeated { OnOk result (repeated.new.items ≡ repeated_in table (length earlier.now) store entry.now.region entry.now.body) }
     ensures ok { OnOk result (fault_at table schema.now (length earlier.now) store entry.now ≡ None) }
     ensures follows { OnOk result (Follows tables.new (after_entry table (length earlier.now) store entry.now)) }
@@ -199,9 +201,6 @@ pub fn admit_entry(
     ensures unchanged { OnErr result (Follows tables.new store) }
 {
     let position = earlier.len() as u64;
-    if let Some(fault) = find_head_fault(&tables.regions, position, entry) {
-        return Err(fault);
-    }
     match &entry.body {
         Body::Write { ops } => match range_of_region(region_of(&tables.regions, entry.region)) {
             Some(range) => admit_write(

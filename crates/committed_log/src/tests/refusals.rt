@@ -764,6 +764,82 @@ fn each_op_at_fault_is_named(rt: HostRuntime) -> Result<(), Fail> {
     check(&rt, &CHANGES)
 }
 
+// Opens beside regions that were parted, merged or removed.
+const PLACES: [Case; 7] = [
+    Case(
+        "an open where a region was removed",
+        &REMOVED,
+        Line(2, 5, Act::Open(0, Some(100))),
+        None,
+    ),
+    Case(
+        "an open between two regions",
+        &THREE,
+        Line(4, 5, Act::Open(200, Some(300))),
+        None,
+    ),
+    Case(
+        "an open between two regions that meets the second",
+        &THREE,
+        Line(4, 5, Act::Open(250, Some(301))),
+        Some(Unlawful::Range { handle: 300 }),
+    ),
+    Case(
+        "an open from the low end of a child",
+        &[OPEN, Line(1, 6, Act::Split(50, 2))],
+        Line(3, 5, Act::Open(50, Some(60))),
+        Some(Unlawful::Range { handle: 50 }),
+    ),
+    Case(
+        "an open where a merge ended a low end",
+        &MERGED,
+        Line(3, 5, Act::Open(100, Some(150))),
+        Some(Unlawful::Range { handle: 100 }),
+    ),
+    Case(
+        "an open below a merged region, up to it",
+        &MERGED,
+        Line(3, 5, Act::Open(-5, Some(0))),
+        None,
+    ),
+    Case(
+        "an open where a merged region was removed",
+        &[
+            OPEN,
+            UPPER,
+            Line(1, 6, Act::Prepare(2)),
+            Line(2, 6, Act::Commit(1)),
+            Line(2, 7, Act::Remove),
+        ],
+        Line(3, 5, Act::Open(50, None)),
+        None,
+    ),
+];
+
+#[test]
+fn opens_meet_the_regions_around_them(rt: HostRuntime) -> Result<(), Fail> {
+    check(&rt, &PLACES)
+}
+
+// An install that is refused leaves its place to others.
+#[test]
+fn a_refused_install_takes_no_handles(rt: HostRuntime) -> Result<(), Fail> {
+    let alloc = rt.alloc();
+    let mut logs = log_of_lines(alloc, &ONE)?;
+    let install = Line(
+        2,
+        9,
+        Act::Install(100, None, &[Change::Put(99, 10, &PUT_10)]),
+    );
+    let fault = admit_line(alloc, &mut logs, install)?.err();
+    assert_eq!(rt; fault, Some(Unlawful::Key { op: 0 }));
+    let open = Line(3, 5, Act::Open(150, None));
+    assert_eq!(rt; admit_line(alloc, &mut logs, open)?, Ok(1));
+    let below = Line(2, 9, Act::Install(100, Some(150), &[]));
+    assert_eq!(rt; admit_line(alloc, &mut logs, below)?, Ok(2));
+    Ok(())
+}
+
 // After a refusal the same log takes what it would have taken before.
 #[test]
 fn a_refusal_leaves_the_log(rt: HostRuntime) -> Result<(), Fail> {
