@@ -7,7 +7,7 @@ use Rattle.row_store.proofs.OneRegion.{is_schema}
 use Rattle.row_store.specs.Logs.{log_of, first}
 use Rattle.row_store.specs.Readers.{readers}
 use Rattle.good_replica.specs.Check.{is_good, lists}
-use Rattle.good_replica.specs.Keep.{keep}
+use Rattle.version_gc.specs.Keep.{keep}
 use Rattle.good_replica.specs.Trail.{Segment}
 use Rattle.good_replica.proofs.Checking.{check_tells}
 use Rattle.good_examples.specs.Runs.{two_puts, handle_5, whole, both_puts, PutsStayGood, CrashKeepsMark, RemovalsStayGood, IsRefused, WrongReplicasAreRefused, SegmentsStayGood, CheckpointsStayGood, three_puts, handles_5_and_7, parted}

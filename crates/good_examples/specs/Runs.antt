@@ -11,7 +11,7 @@ use Rattle.row_store.specs.OneRegion.{put_and_delete, nine_puts}
 use Rattle.good_replica.specs.Check.{is_good, lists}
 use Rattle.good_replica.specs.Effect.{absorbed, added, clearing}
 use Rattle.good_replica.specs.Good.{AreGood}
-use Rattle.good_replica.specs.Keep.{keep}
+use Rattle.version_gc.specs.Keep.{keep}
 use Rattle.good_replica.specs.Trail.{Segment, DeltaFile, Puts}
 
 -- ---- files

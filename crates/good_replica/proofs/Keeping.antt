@@ -10,7 +10,7 @@ use Rattle.std.specs.Option.{option_or}
 use Rattle.column_block.specs.declared.cell.Version.{Version}
 use Rattle.good_replica.specs.Changed.{IsCollected, had}
 use Rattle.good_replica.specs.Good.{IsPassed, IsLoneDelete}
-use Rattle.good_replica.specs.Keep.{is_kept, keep, version_cmp, Rise}
+use Rattle.version_gc.specs.Keep.{is_kept, keep, version_cmp, Rise}
 use Rattle.good_replica.specs.Trail.{after_versions, versions_on}
 use Rattle.good_replica.specs.Versions.{Versions}
 use Rattle.good_replica.proofs.Steps.{versions_over}

@@ -5,5 +5,4 @@ pub mod Good
 pub mod Effect
 pub mod Shows
 pub mod Changed
-pub mod Keep
 pub mod Check

@@ -8,7 +8,7 @@ ghost use Rattle.committed_log.specs.Log.{Log};
 ghost use Rattle.good_replica.specs.Changed.{IsCollected, SaysNothing, of_parts, view, had};
 ghost use Rattle.good_replica.specs.Effect.{clipped};
 ghost use Rattle.good_replica.specs.Good.{IsGoodOn};
-ghost use Rattle.good_replica.specs.Keep.{keep, Rise};
+ghost use Rattle.version_gc.specs.Keep.{keep, Rise};
 ghost use Rattle.good_replica.specs.Trail.{DeltaFile, Puts, trail, steps_on, after_steps};
 
 /// A flush or a compaction: neighbouring blocks give way to one that has the same versions.

@@ -1,0 +1,3 @@
+pub mod Keep
+pub mod Rows
+pub mod Shown
