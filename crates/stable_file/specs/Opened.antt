@@ -1,20 +1,19 @@
 -- What an open stable file shows.
 use Rattle.std.specs.Prelude.{◌≡◌, ℕ, ◌+◌, ◌-◌, ◌≤◌, ◌⊎◌, List, length, take, drop}
 use Rattle.std.specs.Int.{w64, from_be_bytes}
-use Rattle.std.specs.Arc.{arc_value}
 use Rattle.column_block.specs.declared.column.Column.{Column}
 use Rattle.stable_file.specs.declared.file.StableFile.{StableFile}
 use Rattle.stable_file.specs.declared.pack.Pack.{Pack}
 
 -- its packs, as the footer tells them
 abbrev pub packs_of : {G : Type 0} → StableFile G → List Pack
-packs_of file = (arc_value file.shared).packs
+packs_of file = file.packs
 
 abbrev pub schema_of : {G : Type 0} → StableFile G → List Column
-schema_of file = (arc_value file.shared).schema
+schema_of file = file.schema
 
 abbrev pub grip_of : {G : Type 0} → StableFile G → G
-grip_of file = (arc_value file.shared).grip
+grip_of file = file.grip
 
 -- These are the last bytes of a file with this content, whose length is known.
 pub record IsTailOf (len : ℕ) (tail bytes : List ℕ) : Type 0 where

@@ -7,24 +7,38 @@ ghost use Rattle.stable_file.specs.Opened.{packs_of, schema_of, grip_of, IsTailO
 use crate::fault::ReadError;
 use crate::footer::tail_of;
 use crate::pack::Pack;
-use column_block::{MinMax, Schema};
+use column_block::{Memory, MinMax, Schema};
 use flash_io::Gripped;
 use flash_list::Items;
 use std::alloc::{AllocError, Global};
+use std::marker::Model;
 use std::sync::Arc;
 
-// What the owners of a stable file share.
+/// What the owners of a stable file share.
 #[derive(Drop)]
 pub struct Parts<G> {
+    /// The hold on its bytes.
     pub grip: G,
+    /// The columns of its versions.
     pub schema: Schema,
+    /// Its packs, as the footer tells them.
     pub packs: Items<Pack>,
 }
 
-/// A stable file that is open: what its footer tells, and a grip on its bytes.
+/// A stable file that is open: what its footer tells, and a grip on its bytes. Its owners share
+/// these; contracts see what they share.
 #[derive(Drop)]
 pub struct StableFile<G> {
     shared: Arc<Parts<G>, Global>,
+}
+
+impl<G> Model for StableFile<G> {
+    ghost use Rattle.std.specs.Arc.{arc_value};
+    ghost use Rattle.stable_file.specs.declared.file.Parts.{Parts};
+
+    ghost Value = { Parts G };
+
+    ghost view = { λ file. arc_value file.shared };
 }
 
 // The same schema once more.
@@ -102,11 +116,19 @@ pub fn attach<G: Gripped>(
 impl<G> StableFile<G> {
     // What the owners share.
     pub(crate) fn parts(&self) -> &Parts<G>
-        ensures packs { result.now.packs ≡ packs_of self.now }
-        ensures schema { result.now.schema ≡ schema_of self.now }
-        ensures grip { result.now.grip ≡ grip_of self.now }
+        ensures { result.now ≡ self.now }
     {
         &self.shared
+    }
+
+    /// One more owner of the open file. It copies nothing of it.
+    pub fn share(&self) -> Result<StableFile<G>, Memory>
+        ensures { IfOk result (λ file. file ≡ self.now) }
+    {
+        match Arc::try_clone(&self.shared) {
+            Ok(shared) => Ok(StableFile { shared }),
+            Err(_) => Err(Memory),
+        }
     }
 
     /// The number of packs, at least one.

@@ -17,7 +17,7 @@ pub use file::{StableFile, attach};
 pub use laws::{built_footers_are_read_again, built_packs_are_read_again};
 pub use pack::Pack;
 pub use read::{open, read_pack};
-pub use versions::pack_of;
+pub use versions::{is_before, pack_of, rise};
 pub use write::build;
 
 #[cfg(test)]

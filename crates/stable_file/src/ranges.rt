@@ -1,7 +1,8 @@
 // The numbers of a pack that its footer tells.
-ghost use Rattle.std.specs.Prelude.{◌≡◌, ◌<◌, ◌≤◌, length, slice_range};
+ghost use Rattle.std.specs.Prelude.{◌≡◌, ◌<◌, ◌≤◌, length, slice_range, IfOk, IsTrue};
 ghost use Rattle.pack_codec.specs.Faults.{Gives};
 ghost use Rattle.pack_codec.specs.Spelling.{cell_of};
+ghost use Rattle.stable_file.specs.Packs.{rise};
 ghost use Rattle.stable_file.specs.Ranges as ranges;
 
 use crate::pack::Pack;
@@ -132,7 +133,8 @@ pub fn told_of(
     bytes: &[u8],
     schema: &Schema,
 ) -> Result<Block, FormError>
-    ensures { Gives (λ block. block) result (ranges.told_at pack.now end schema.now bytes.now) }
+    ensures exact { Gives (λ block. block) result (ranges.told_at pack.now end schema.now bytes.now) }
+    ensures rising { IfOk result (λ block. IsTrue (rise block)) }
 {
     let block = versions_in(alloc, bytes, end, pack.place, schema)?;
     if !is_as_told(pack, &block) {

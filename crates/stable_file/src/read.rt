@@ -1,9 +1,10 @@
 // Stable files that are read through a reader.
-ghost use Rattle.std.specs.Prelude.{◌≡◌, ◌<◌, ◌≤◌, ◌-◌, length, take, drop, slice_get, IfOk, IfErr, Some};
+ghost use Rattle.std.specs.Prelude.{◌≡◌, ◌<◌, ◌≤◌, ◌-◌, length, take, drop, slice_get, IfOk, IfErr, IsTrue, Some};
 ghost use Rattle.stable_file.specs.declared.pack.Pack.{Pack};
 ghost use Rattle.stable_file.specs.Opened.{packs_of, schema_of, grip_of};
 ghost use Rattle.stable_file.specs.Faults.{GivesOrDevice, HasReadCause, IsOutside};
 ghost use Rattle.stable_file.specs.Footer.{size_at, tail_at};
+ghost use Rattle.stable_file.specs.Packs.{rise};
 ghost use Rattle.stable_file.specs.Ranges.{told_in};
 
 use crate::fault::ReadError;
@@ -49,6 +50,7 @@ fn pack_in<R: Reader>(
     reader: &mut R,
 ) -> Result<Block, ReadError>
     ensures exact { R.Grip.tells → GivesOrDevice (λ block. block) result (told_in pack.now schema.now (R.Grip.bytes grip.now)) }
+    ensures rising { IfOk result (λ block. IsTrue (rise block)) }
     ensures cause { HasReadCause (R.fault_count reader.old) (R.fault_count reader.new) result }
 {
     let bytes = bytes_at(alloc, reader, grip, pack.place, pack.len)?;
@@ -139,6 +141,7 @@ pub fn read_pack<R: Reader>(
 ) -> Result<Block, ReadError>
     requires { k < length (packs_of file.now) }
     ensures exact { R.Grip.tells → (pack : Pack) → slice_get (packs_of file.now) k ≡ Some pack → GivesOrDevice (λ block. block) result (told_in pack (schema_of file.now) (R.Grip.bytes (grip_of file.now))) }
+    ensures rising { IfOk result (λ block. IsTrue (rise block)) }
     ensures cause { HasReadCause (R.fault_count reader.old) (R.fault_count reader.new) result }
 {
     let parts = file.parts();

@@ -138,8 +138,8 @@ impl flash_io::Gripped for Nothing {
     ghost bytes = { λ _. [] };
 }
 
-// How many versions the packs of the three built ones have, through a reader: as the digits of
-// a number.
+// How many versions the packs of the three built ones have, through a reader and a second owner of
+// the open file: as the digits of a number.
 fn read_counts(alloc: Global, bytes: &[u8]) -> Result<usize, Fail> {
     let mut disk = MemDisk::new(alloc);
     disk.create(3, bytes).map_err(|_| "memory")?;
@@ -152,7 +152,7 @@ fn read_counts(alloc: Global, bytes: &[u8]) -> Result<usize, Fail> {
         &mut reader,
         &schema(alloc)?,
     );
-    let file = file.map_err(|_| "refused")?;
+    let file = file.map_err(|_| "refused")?.share()?;
     let mut counts = 0usize;
     for k in 0..file.packs() {
         let pack = read_pack(&file, alloc, &mut reader, k).map_err(|_| "refused")?;

@@ -9,8 +9,8 @@ use column_block::{Block, Schema, Version};
 use pack_codec::{FormError, read_pack};
 use std::alloc::Global;
 
-// By handle, and by timestamp where the handle is the same.
-fn is_before(v: &Version, w: &Version) -> bool
+/// Whether a version stands before another: by handle, and by timestamp where the handle is the same.
+pub fn is_before(v: &Version, w: &Version) -> bool
     ensures { result ≡ is_before v.now w.now }
 {
     if v.handle < w.handle {
@@ -19,7 +19,7 @@ fn is_before(v: &Version, w: &Version) -> bool
     v.handle == w.handle && v.ts < w.ts
 }
 
-// Whether there is a version, and each stands before the next.
+/// Whether there is a version, and each stands before the next.
 pub fn rise(block: &Block) -> bool
     ensures exact { result ≡ rise block.now }
     ensures some { IsTrue result → 0 < length block.now }
@@ -46,6 +46,7 @@ pub fn versions_in(
 ) -> Result<Block, FormError>
     ensures exact { form.Gives (λ block. block) result (versions_in end at schema.now bytes.now) }
     ensures some { IfOk result (λ block. 0 < length block) }
+    ensures rising { IfOk result (λ block. IsTrue (rise block)) }
 {
     let block = read_pack(alloc, bytes, end, schema)?;
     if !rise(&block) {
@@ -62,7 +63,8 @@ pub fn versions_in(
 /// don't rise by handle and then timestamp. It never answers `Device`.
 pub fn pack_of(alloc: Global, bytes: &[u8], at: u64, schema: &Schema) -> Result<Block, ReadError>
     requires { at + length bytes.now < 2 ^ 64 }
-    ensures { Gives (λ block. block) result (versions_at at schema.now bytes.now) }
+    ensures exact { Gives (λ block. block) result (versions_at at schema.now bytes.now) }
+    ensures rising { IfOk result (λ block. IsTrue (rise block)) }
 {
     let block = versions_in(alloc, bytes, at + bytes.len() as u64, at, schema)?;
     Ok(block)
