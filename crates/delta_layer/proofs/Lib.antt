@@ -1,0 +1,11 @@
+pub mod Deltas
+pub mod Indexes
+pub mod Layers
+pub mod Merging
+pub mod Order
+pub mod Overlaid
+pub mod Packing
+pub mod Pairs
+pub mod Places
+pub mod Repacking
+pub mod Sweeping

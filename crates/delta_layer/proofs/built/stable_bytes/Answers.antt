@@ -1,0 +1,10 @@
+use Rattle.std.proofs.Common.{◌∙◌}
+use Rattle.delta_layer.proofs.Order.{rise_of}
+use Rattle.delta_layer.proofs.Sweeping.{stays_here}
+use Rattle.delta_layer.proofs.Places.{filter_step}
+use Rattle.delta_layer.proofs.Overlaid.{are_present}
+use Rattle.delta_layer.proofs.Repacking.{repacked_same}
+use Rattle.delta_layer.proofs.built.stable_bytes.Goals as goal
+
+pub build-requires-clause-rise : goal.build-requires-clause-rise
+build-requires-clause-rise c = rise_of c.args.versions.now (λ e. c.if-len-eq0.false (c.len.ensures ∙ e)) c.requires.rise

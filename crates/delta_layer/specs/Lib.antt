@@ -1,0 +1,9 @@
+pub mod Built
+pub mod Faults
+pub mod Files
+pub mod Overlay
+pub mod Pieces
+pub mod Present
+pub mod Repacked
+pub mod Slots
+pub mod Stable

@@ -1,0 +1,29 @@
+//! The delta of a segment: its files in order with the index over them, snapshots of it, and the
+//! versions that are present in a segment.
+#![tactic(auto)]
+
+mod building;
+mod built;
+mod laws;
+mod layer;
+mod merge;
+mod newest;
+mod presence;
+mod slots;
+mod stable;
+mod sweep;
+mod view;
+
+pub use building::present_for_build;
+pub use built::{BuildError, Built, Job, Piece, stable_piece};
+pub use laws::{present_versions_are_unique, repacked_layers_show_the_same};
+pub use layer::DeltaLayer;
+pub use presence::present;
+pub use view::{DeltaView, SegmentView};
+
+/// Memory ran out.
+#[derive(Clone, Copy, Debug, PartialEq, Eq)]
+pub struct Memory;
+
+#[cfg(test)]
+mod tests;
