@@ -1,0 +1,6 @@
+pub mod Going
+pub mod Members
+pub mod Neighbours
+pub mod Newest
+pub mod Places
+pub mod Reading
