@@ -121,7 +121,7 @@ module _ {K X : Type 0} {R : K → K → Ordering} (o : IsTotalOrder R) (exact :
         by true is = past_head q x xs s is ∙ sym (past_head q y ys t (sym (ap (is_at (R q)) heads) ∙ is))
         by false is = sym (lookup_tail (is_at (R q)) x xs is) ∙ h q ∙ lookup_tail (is_at (R q)) y ys (sym (ap (is_at (R q)) heads) ∙ is)
 
-  same_lists : (es fs : List (K × X)) → Rise R es → Rise R fs → ((q : K) → look es q ≡ look fs q) → es ≡ fs
+  pub same_lists : (es fs : List (K × X)) → Rise R es → Rise R fs → ((q : K) → look es q ≡ look fs q) → es ≡ fs
   same_lists [] [] s t h = refl
   same_lists [] (y ∷ ys) s t h = absurd (cc (h y.0 ∙ at_head y ys))
   same_lists (x ∷ xs) [] s t h = absurd (cc (sym (at_head x xs) ∙ h x.0))

@@ -73,6 +73,26 @@ impl Region {
         }
     }
 
+    /// A region that has these families, as a file tells them.
+    pub fn from_parts(
+        alloc: Global,
+        descriptor: Descriptor,
+        target: Option<RegionId>,
+        values: Values,
+        locks: Locks,
+    ) -> Region
+        requires { IsWithin descriptor.range values.entries locks.entries }
+        ensures { result ≡ record { descriptor = descriptor; target = target; values = values.entries; locks = locks.entries } }
+    {
+        Region {
+            descriptor,
+            target,
+            values,
+            locks,
+            alloc,
+        }
+    }
+
     /// The range, the epoch and the last index.
     pub fn descriptor(&self) -> Descriptor
         ensures { result ≡ self.now.descriptor }
@@ -261,7 +281,8 @@ impl Region {
     }
 
     /// Takes the handles and the families of a region whose range touches this one's, where neither
-    /// range is empty. The version becomes the greater of both, plus 1, and the last index the
+    /// range is empty: the low end of an empty one may lie above the other's handles, which the joined
+    /// range would lose. The version becomes the greater of both, plus 1, and the last index the
     /// entry's. `Err` hands the other back for want of memory, and leaves both as they were.
     pub fn absorb(&mut self, other: Region, index: u64) -> Result<(), Region>
         requires touch { touch self.old.descriptor.range other.descriptor.range ≡ true }

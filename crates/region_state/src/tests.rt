@@ -6,6 +6,8 @@ use crate::Region;
 use column_block::{Column, Kind, Schema};
 use committed_log::FamilyOp;
 use flash_types::{Epoch, HandleRange};
+use kv_codec::LockKind;
+use log_codec::OpBytes;
 use std::alloc::Global;
 use std::test::Fail;
 
@@ -60,5 +62,58 @@ fn a_region_is_parted_and_joined_again(rt: HostRuntime) -> Result<(), Fail> {
     assert_eq!(rt; lower.range().high, Some(100));
     assert_eq!(rt; lower.epoch().version, 3);
     assert_eq!(rt; lower.index(), 7);
+    Ok(())
+}
+
+#[test]
+fn values_and_locks_come_and_go(rt: HostRuntime) -> Result<(), Fail> {
+    let schema = schema(rt.alloc())?;
+    let mut region = region(rt.alloc(), 0, None);
+    // The row of 5 in column 1.
+    let row = [128, 0, 1, 0, 0, 0, 1, 1, 0, 5];
+    let value = FamilyOp::Value {
+        handle: 7,
+        start: 8,
+        bytes: OpBytes::from_slice(rt.alloc(), &row)?,
+    };
+    let lock = FamilyOp::Lock {
+        handle: 7,
+        kind: LockKind::Put,
+        start: 8,
+    };
+    let ops = Vec::from_array(rt.alloc(), [value, lock])?;
+    let block = region.fold(6, &ops, &schema)?;
+    assert_eq!(rt; block.len(), 0);
+    assert_eq!(rt; region.values(), 1);
+    assert_eq!(rt; region.first_lock(region.range(), 8), Some((7, 8)));
+    let long = FamilyOp::Write {
+        handle: 7,
+        ts: 9,
+        start: 8,
+        gone: false,
+        short: None,
+    };
+    let unlock = FamilyOp::Unlock { handle: 7 };
+    let dropped = FamilyOp::DropValue {
+        handle: 7,
+        start: 8,
+    };
+    let short = FamilyOp::Write {
+        handle: 9,
+        ts: 10,
+        start: 4,
+        gone: false,
+        short: Some(OpBytes::from_slice(rt.alloc(), &row)?),
+    };
+    let ops = Vec::from_array(rt.alloc(), [long, unlock, dropped, short])?;
+    let block = region.fold(7, &ops, &schema)?;
+    assert_eq!(rt; block.len(), 2);
+    assert!(rt; !block.at(0).gone);
+    assert_eq!(rt; block.at(0).cells.len(), 1);
+    assert_eq!(rt; block.at(1).handle, 9);
+    assert_eq!(rt; block.at(1).ts, 10);
+    assert_eq!(rt; region.values(), 0);
+    assert_eq!(rt; region.locks(), 0);
+    assert_eq!(rt; region.index(), 7);
     Ok(())
 }
