@@ -1,0 +1,5 @@
+pub mod Going
+pub mod Rising
+pub mod Meeting
+mod Walking
+mod Loop
