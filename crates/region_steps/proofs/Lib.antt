@@ -1,0 +1,6 @@
+pub mod Inside
+pub mod Keys
+pub mod Ops
+pub mod All
+pub mod Folding
+pub mod Changing

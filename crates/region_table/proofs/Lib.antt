@@ -1,0 +1,16 @@
+pub mod Sets
+pub mod Judged
+pub mod Numbers
+pub mod Behind
+pub mod Parting
+pub mod Around
+pub mod Locals
+pub mod Unions
+pub mod Families
+pub mod Commands
+pub mod Applied
+pub mod Counts
+pub mod Parsed
+pub mod Effected
+pub mod Nexts
+pub mod Empty

@@ -1,0 +1,9 @@
+pub mod Table
+pub mod Counting
+pub mod Judging
+pub mod Applying
+pub mod Faults
+pub mod Steps
+pub mod Effects
+pub mod Nexts
+pub mod Live

@@ -1,0 +1,24 @@
+-- The regions that are there, one after the other.
+use Rattle.std.specs.Prelude.{ℕ, Bool, true, Option, Some, None, List, [], ◌∷◌, nat_lt, filter}
+use Rattle.std.specs.Option.{option_or}
+use Rattle.flash_types.specs.declared.ask.AskRegion.{AskRegion}
+use Rattle.region_table.specs.declared.kept.Kept.{Kept}
+use Rattle.region_table.specs.declared.kept.Kept.TheVariants as kept
+
+abbrev pub is_above : Option ℕ → ℕ → Bool
+is_above None r = true
+is_above (Some after) r = nat_lt after r
+
+-- a region that is there, with its epoch and its index
+abbrev pub asked_kept : ℕ × Kept → Option AskRegion
+asked_kept (r, kept.Gone index) = None
+asked_kept (r, kept.There s) = Some (record { region = r; epoch = s.descriptor.epoch; index = s.descriptor.index })
+
+-- the first that is there
+abbrev pub first_asked : List (ℕ × Kept) → Option AskRegion
+first_asked [] = None
+first_asked (e ∷ es) = option_or (asked_kept e) (first_asked es)
+
+-- the first above a number
+abbrev pub next_there : List (ℕ × Kept) → Option ℕ → Option AskRegion
+next_there regions after = first_asked (filter (λ (e : ℕ × Kept). is_above after e.0) regions)

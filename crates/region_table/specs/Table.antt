@@ -1,0 +1,82 @@
+-- The region table of a replica, and when it is that of a log at a set of applied entries.
+use Rattle.std.specs.Prelude.{◌≡◌, ℕ, suc, ℤ, Bool, not, Option, Some, None, List, [], length, filter, find, unwrap_or}
+use Rattle.std.specs.BTreeMap.{is_at}
+use Rattle.std.specs.Map.{lookup}
+use Rattle.std.specs.Ordering.{nat_cmp}
+use Rattle.committed_log.specs.declared.region.Descriptor.{Descriptor}
+use Rattle.committed_log.specs.Applied.{IsClosed, applied, place, positions}
+use Rattle.committed_log.specs.Log.{Log, at}
+use Rattle.committed_log.specs.declared.region.Region.{Region}
+use Rattle.committed_log.specs.declared.region.Region.TheVariants.{Unborn, Live, Prepared, Gone}
+use Rattle.committed_log.specs.Replies.{locks_at}
+use Rattle.region_state.specs.State.{State, values_in, locks_in}
+use Rattle.region_table.specs.declared.kept.Kept.{Kept}
+use Rattle.region_table.specs.declared.kept.Kept.TheVariants as kept
+use Rattle.region_table.specs.declared.table.Counted.{Counted}
+
+-- The regions that are born, by number, and, where it was counted, how many entries are applied and which is the first that isn't.
+pub record Table : Type 0 where
+  pub regions : List (ℕ × Kept)
+  pub counted : Option Counted
+
+abbrev pub kept_in : List (ℕ × Kept) → ℕ → Option Kept
+kept_in regions r = lookup (is_at (nat_cmp r)) regions
+
+-- ---- the state that a table has a region in
+
+abbrev pub state_there : State → Region
+state_there s = elim s.target [ None ↦ Live s.descriptor | Some target ↦ Prepared s.descriptor target ]
+
+abbrev pub state_kept : Option Kept → Region
+state_kept None = Unborn
+state_kept (Some (kept.Gone index)) = Gone index
+state_kept (Some (kept.There region)) = state_there region
+
+abbrev pub state_in : List (ℕ × Kept) → ℕ → Region
+state_in regions r = state_kept (kept_in regions r)
+
+-- ---- the table of a log
+
+-- what the default family has where a region gets an index
+abbrev pub values_at : Log → ℕ → ℕ → List ((ℤ × ℕ) × List ℕ)
+values_at log r i = elim (place log r i) [ None ↦ [] | Some p ↦ (at log (suc p)).values ]
+
+-- a region that is there: the values and the locks of its handles are those at its index
+abbrev pub there_at : Log → ℕ → Descriptor → Option ℕ → Kept
+there_at log r d target = kept.There (record { descriptor = d; target = target; values = values_in d.range (values_at log r d.index); locks = locks_in d.range (locks_at log r d.index) })
+
+abbrev pub kept_at : Log → ℕ → Region → Option Kept
+kept_at log r Unborn = None
+kept_at log r (Live d) = Some (there_at log r d None)
+kept_at log r (Prepared d target) = Some (there_at log r d (Some target))
+kept_at log r (Gone index) = Some (kept.Gone index)
+
+-- how many entries are applied
+abbrev pub size_of : Log → (ℕ → Bool) → ℕ
+size_of log A = length (filter A (positions log))
+
+-- the first entry that isn't applied, or the end of the log
+abbrev pub first_out : Log → (ℕ → Bool) → ℕ
+first_out log A = unwrap_or (find (λ p. not (A p)) (positions log)) (length log.entries)
+
+pub record IsCounted (log : Log) (A : ℕ → Bool) (c : Counted) : Type 0 where
+  pub count : c.count ≡ size_of log A
+  pub first : c.first ≡ first_out log A
+
+abbrev pub AreCounted : Log → (ℕ → Bool) → Option Counted → Type 0
+AreCounted log A None = Unit {0}
+AreCounted log A (Some c) = IsCounted log A c
+
+-- The applied entries are a closed set, the table has each region as they leave it, and what was counted is right.
+pub record IsTableAt (log : Log) (A : ℕ → Bool) (t : Table) : Type 0 where
+  pub closed : IsClosed log A
+  pub regions : (r : ℕ) → kept_in t.regions r ≡ kept_at log r (applied log A r)
+  pub counted : AreCounted log A t.counted
+
+-- the table is that of the log at some set
+abbrev pub Agrees : Log → Table → Type 0
+Agrees log t = (A : ℕ → Bool) × IsTableAt log A t
+
+-- no region is born, and no entry is applied
+abbrev pub empty_table : Table
+empty_table = record { regions = []; counted = Some (record { count = 0; first = 0 }) }

@@ -1,0 +1,285 @@
+// What an entry does to the regions of a table.
+ghost use Rattle.std.specs.Prelude.{◌≡◌, ◌≢◌, ℕ, true, false, OnOk, OnErr, IfErr, IfSome, IsSome, Some, None, []};
+ghost use Rattle.std.specs.List.{list_all};
+ghost use Rattle.region_state.specs.Folding.{folded, lies_in};
+ghost use Rattle.region_state.specs.State.{born, prepared, lower_of, upper_of, absorbed};
+ghost use Rattle.region_table.specs.Steps.{kept_after, changed, if_there, IfThere, IsThere, CanBeDone, CanSplit, CanRise, CanMerge};
+ghost use Rattle.region_table.specs.Table.{kept_in};
+ghost use Rattle.region_table.specs.declared.kept.Kept.TheVariants as kept;
+
+use crate::kept::Kept;
+use crate::table::Regions;
+use column_block::{Memory, Schema};
+use committed_log::FamilyOp;
+use flash_types::{Epoch, Handle, HandleRange, RegionId};
+use raft_apply::Command;
+use region_state::Region;
+use std::alloc::Global;
+
+// Puts a region that is born in another way. It takes no memory.
+fn set(regions: &mut Regions, id: RegionId, kept: Kept)
+    requires { IsSome (kept_in regions.old.entries id) }
+    ensures { (q : ℕ) → kept_in regions.new.entries q ≡ changed (kept_in regions.old.entries) id kept q }
+{
+    match regions.insert(id, kept) {
+        Ok(_) => {}
+        Err(_) => unreachable!(),
+    }
+}
+
+// Takes a region that is there out of its place, where it leaves another.
+fn take(regions: &mut Regions, id: RegionId) -> Option<Region>
+    ensures there { IfSome result (λ region. kept_in regions.old.entries id ≡ Some (kept.There region)) }
+    ensures left { IfSome result (λ region. (q : ℕ) → kept_in regions.new.entries q ≡ changed (kept_in regions.old.entries) id (kept.Gone 0) q) }
+    ensures stays { result ≡ None → regions.new.entries ≡ regions.old.entries }
+    ensures none { result ≡ None → IfThere (kept_in regions.old.entries id) (λ region. ⊥) }
+{
+    match regions.get(&id) {
+        Some(Kept::There { .. }) => {}
+        _ => return None,
+    }
+    match regions.insert(id, Kept::Gone { index: 0 }) {
+        Ok(Some(Kept::There { region })) => Some(region),
+        _ => unreachable!(),
+    }
+}
+
+// Bears a region.
+fn bear(regions: &mut Regions, id: RegionId, region: Region) -> Result<(), Memory>
+    ensures ok { OnOk result ((q : ℕ) → kept_in regions.new.entries q ≡ changed (kept_in regions.old.entries) id (kept.There region) q) }
+    ensures err { OnErr result (regions.new.entries ≡ regions.old.entries) }
+{
+    match regions.insert(id, Kept::There { region }) {
+        Ok(_) => Ok(()),
+        Err(_) => Err(Memory),
+    }
+}
+
+// The changes of an entry, in order.
+fn write(
+    regions: &mut Regions,
+    id: RegionId,
+    index: u64,
+    ops: &[FamilyOp],
+    schema: &Schema,
+) -> Result<(), Memory>
+    requires { IfThere (kept_in regions.old.entries id) (λ s. list_all (lies_in s.descriptor.range) ops.now ≡ true) }
+    ensures ok { OnOk result ((q : ℕ) → kept_in regions.new.entries q ≡ if_there (kept_in regions.old.entries id) (λ s. changed (kept_in regions.old.entries) id (kept.There (folded s index ops.now))) (kept_in regions.old.entries) q) }
+    ensures err { OnErr result ((q : ℕ) → kept_in regions.new.entries q ≡ kept_in regions.old.entries q) }
+{
+    let Some(mut region) = take(regions, id) else {
+        return Ok(());
+    };
+    match region.fold(index, ops, schema) {
+        Ok(_) => {
+            set(regions, id, Kept::There { region });
+            Ok(())
+        }
+        Err(_) => {
+            set(regions, id, Kept::There { region });
+            Err(Memory)
+        }
+    }
+}
+
+// A region is ready to be merged into a target.
+fn prepare(regions: &mut Regions, id: RegionId, index: u64, target: RegionId)
+    requires { IfThere (kept_in regions.old.entries id) (λ s. CanRise s.descriptor.epoch) }
+    ensures { (q : ℕ) → kept_in regions.new.entries q ≡ if_there (kept_in regions.old.entries id) (λ s. changed (kept_in regions.old.entries) id (kept.There (prepared s target index))) (kept_in regions.old.entries) q }
+{
+    let Some(mut region) = take(regions, id) else {
+        return;
+    };
+    region.prepare(target, index);
+    set(regions, id, Kept::There { region });
+}
+
+// Parts a region, where there is room for the child already.
+fn part(
+    regions: &mut Regions,
+    id: RegionId,
+    index: u64,
+    at: Handle,
+    child: RegionId,
+) -> Result<(), Memory>
+    requires apart { child ≢ id }
+    requires room { kept_in regions.old.entries child ≡ Some (kept.Gone 0) }
+    requires can { IfThere (kept_in regions.old.entries id) (λ s. CanSplit s at) }
+    ensures ok { OnOk result ((q : ℕ) → kept_in regions.new.entries q ≡ if_there (kept_in regions.old.entries id) (λ s. changed (changed (kept_in regions.old.entries) child (kept.There (upper_of s at))) id (kept.There (lower_of s at index))) (kept_in regions.old.entries) q) }
+    ensures err { OnErr result ((q : ℕ) → kept_in regions.new.entries q ≡ kept_in regions.old.entries q) }
+{
+    let Some(mut region) = take(regions, id) else {
+        return Ok(());
+    };
+    match region.split_off(at, index) {
+        Ok(upper) => {
+            set(regions, child, Kept::There { region: upper });
+            set(regions, id, Kept::There { region });
+            Ok(())
+        }
+        Err(_) => {
+            set(regions, id, Kept::There { region });
+            Err(Memory)
+        }
+    }
+}
+
+fn is_there(regions: &Regions, id: RegionId) -> bool
+    ensures yes { result ≡ true → IsThere (kept_in regions.now.entries id) }
+    ensures no { result ≡ false → IfThere (kept_in regions.now.entries id) (λ s. ⊥) }
+{
+    matches!(regions.get(&id), Some(Kept::There { .. }))
+}
+
+// A region is parted at a handle, and the child has the handles from there up.
+fn split(
+    regions: &mut Regions,
+    id: RegionId,
+    index: u64,
+    at: Handle,
+    child: RegionId,
+) -> Result<(), Memory>
+    requires apart { child ≢ id }
+    requires unborn { kept_in regions.old.entries child ≡ None }
+    requires can { IfThere (kept_in regions.old.entries id) (λ s. CanSplit s at) }
+    ensures ok { OnOk result ((q : ℕ) → kept_in regions.new.entries q ≡ if_there (kept_in regions.old.entries id) (λ s. changed (changed (kept_in regions.old.entries) child (kept.There (upper_of s at))) id (kept.There (lower_of s at index))) (kept_in regions.old.entries) q) }
+    ensures err { OnErr result ((q : ℕ) → kept_in regions.new.entries q ≡ kept_in regions.old.entries q) }
+{
+    if !is_there(regions, id) {
+        return Ok(());
+    }
+    let Ok(_) = regions.insert(child, Kept::Gone { index: 0 }) else {
+        return Err(Memory);
+    };
+    match part(regions, id, index, at, child) {
+        Ok(()) => Ok(()),
+        Err(_) => {
+            let _ = regions.remove(&child);
+            Err(Memory)
+        }
+    }
+}
+
+// A region takes another, whose place is left to it, or hands it back for want of memory.
+fn merge(regions: &mut Regions, id: RegionId, index: u64, other: Region) -> Result<(), Region>
+    requires can { IfThere (kept_in regions.old.entries id) (λ s. CanMerge s other) }
+    requires there { IsThere (kept_in regions.old.entries id) }
+    ensures ok { OnOk result ((q : ℕ) → kept_in regions.new.entries q ≡ if_there (kept_in regions.old.entries id) (λ s. changed (kept_in regions.old.entries) id (kept.There (absorbed s other index))) (kept_in regions.old.entries) q) }
+    ensures err { OnErr result ((q : ℕ) → kept_in regions.new.entries q ≡ kept_in regions.old.entries q) }
+    ensures back { IfErr result (λ back. back ≡ other) }
+{
+    let Some(mut region) = take(regions, id) else {
+        return Err(other);
+    };
+    match region.absorb(other, index) {
+        Ok(()) => {
+            set(regions, id, Kept::There { region });
+            Ok(())
+        }
+        Err(back) => {
+            set(regions, id, Kept::There { region });
+            Err(back)
+        }
+    }
+}
+
+// A region takes the handles and the families of a source, which is gone then.
+fn commit(regions: &mut Regions, id: RegionId, index: u64, source: RegionId) -> Result<(), Memory>
+    requires apart { source ≢ id }
+    requires can { IfThere (kept_in regions.old.entries id) (λ s. IfThere (kept_in regions.old.entries source) (λ other. CanMerge s other)) }
+    ensures ok { OnOk result ((q : ℕ) → kept_in regions.new.entries q ≡ if_there (kept_in regions.old.entries id) (λ s. if_there (kept_in regions.old.entries source) (λ other. changed (changed (kept_in regions.old.entries) id (kept.There (absorbed s other index))) source (kept.Gone other.descriptor.index)) (kept_in regions.old.entries)) (kept_in regions.old.entries) q) }
+    ensures err { OnErr result ((q : ℕ) → kept_in regions.new.entries q ≡ kept_in regions.old.entries q) }
+{
+    if !is_there(regions, id) {
+        return Ok(());
+    }
+    let Some(other) = take(regions, source) else {
+        return Ok(());
+    };
+    let last = other.index();
+    match merge(regions, id, index, other) {
+        Ok(()) => {
+            set(regions, source, Kept::Gone { index: last });
+            Ok(())
+        }
+        Err(back) => {
+            set(regions, source, Kept::There { region: back });
+            Err(Memory)
+        }
+    }
+}
+
+// A region is gone. Only one that wasn't born wants memory.
+fn remove(regions: &mut Regions, id: RegionId, index: u64) -> Result<(), Memory>
+    ensures ok { OnOk result ((q : ℕ) → kept_in regions.new.entries q ≡ changed (kept_in regions.old.entries) id (kept.Gone index) q) }
+    ensures err { OnErr result ((q : ℕ) → kept_in regions.new.entries q ≡ kept_in regions.old.entries q) }
+{
+    match regions.insert(id, Kept::Gone { index }) {
+        Ok(_) => Ok(()),
+        Err(_) => Err(Memory),
+    }
+}
+
+// A region is born with what the changes put.
+fn install(
+    alloc: Global,
+    regions: &mut Regions,
+    id: RegionId,
+    index: u64,
+    epoch: Epoch,
+    range: HandleRange,
+    ops: &[FamilyOp],
+    schema: &Schema,
+) -> Result<(), Memory>
+    requires { list_all (lies_in range) ops.now ≡ true }
+    ensures ok { OnOk result ((q : ℕ) → kept_in regions.new.entries q ≡ changed (kept_in regions.old.entries) id (kept.There (folded (born range epoch index) index ops.now)) q) }
+    ensures err { OnErr result (regions.new.entries ≡ regions.old.entries) }
+{
+    let mut region = Region::new(alloc, range, epoch, index);
+    if let Err(_) = region.fold(index, ops, schema) {
+        return Err(Memory);
+    }
+    bear(regions, id, region)
+}
+
+/// Does to the regions what an entry of a region with this index does. For want of memory each is
+/// kept as it was.
+pub fn step(
+    alloc: Global,
+    regions: &mut Regions,
+    id: RegionId,
+    index: u64,
+    command: &Command,
+    schema: &Schema,
+) -> Result<(), Memory>
+    requires { CanBeDone (kept_in regions.old.entries) id command.now }
+    ensures ok { OnOk result ((q : ℕ) → kept_in regions.new.entries q ≡ kept_after (kept_in regions.old.entries) id index command.now q) }
+    ensures err { OnErr result ((q : ℕ) → kept_in regions.new.entries q ≡ kept_in regions.old.entries q) }
+{
+    match command {
+        Command::Open { epoch, range } => bear(
+            regions,
+            id,
+            Region::new(alloc, *range, *epoch, index),
+        ),
+        Command::Write { ops } => write(regions, id, index, ops.as_slice(), schema),
+        Command::Split { at, child } => split(regions, id, index, *at, *child),
+        Command::Prepare { target } => {
+            prepare(regions, id, index, *target);
+            Ok(())
+        }
+        Command::Commit { source } => commit(regions, id, index, *source),
+        Command::Remove => remove(regions, id, index),
+        Command::Install { epoch, range, ops } => install(
+            alloc,
+            regions,
+            id,
+            index,
+            *epoch,
+            *range,
+            ops.as_slice(),
+            schema,
+        ),
+        Command::Empty => write(regions, id, index, &[], schema),
+    }
+}
