@@ -1,3 +1,4 @@
+mod Same
 pub mod Crash
 pub mod Run
 pub mod TwoWrites

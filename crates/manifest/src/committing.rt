@@ -1,6 +1,5 @@
 // Commits of edits.
-ghost use Rattle.std.specs.Prelude.{◌≡◌, ◌≤◌, ◌<◌, ◌+◌, ◌^◌, [], length, vec_len, true, OnOk, OnErr, IfOk, IsErrOf};
-ghost use Rattle.std.specs.Vec.{vec_capacity};
+ghost use Rattle.std.specs.Prelude.{◌≡◌, true, OnOk, OnErr, IfOk, IsErrOf};
 ghost use Rattle.std.specs.List.{All, flat_map};
 ghost use Rattle.flash_io.specs.Image.{SameBut};
 ghost use Rattle.flash_io.specs.Crash.{LeavesOnly};
@@ -10,13 +9,12 @@ ghost use Rattle.manifest_form.specs.Spelling.{EditFits};
 ghost use Rattle.manifest_form.specs.States.{all_done, is_formed};
 ghost use Rattle.manifest.specs.Runs.{Counted, OldOrNew};
 ghost use Rattle.manifest.specs.Stores.{IsKept, Becomes, has_of, has_with};
-ghost use Rattle.manifest.specs.Appended.{IsAppended};
 
 use crate::fault::CommitError;
 use crate::gated::commit;
 use crate::store::Manifest;
 use flash_io::Disk;
-use manifest_form::{Edit, StoredSegment, copied, do_all, put_edits};
+use manifest_form::{Edit, cancel, copied, do_all, make_ready, put_edits};
 use std::alloc::{AllocError, Global};
 
 // The bytes of a record.
@@ -27,39 +25,6 @@ pub fn spelled(alloc: Global, edits: &[Edit]) -> Result<Vec<u8>, AllocError>
     let mut bytes = Vec::new(alloc);
     put_edits(edits, &mut bytes)?;
     Ok(bytes)
-}
-
-// Room for so many segments and so many more.
-fn room(alloc: Global, count: usize, more: usize) -> Result<Vec<StoredSegment>, AllocError>
-    ensures { IfOk result (λ spare. (spare.items ≡ []) × (count + more ≤ vec_capacity spare)) }
-{
-    match count.checked_add(more) {
-        Some(both) => Vec::with_capacity(alloc, both),
-        None => Err(AllocError),
-    }
-}
-
-// The edits' record behind the manifest's own.
-fn append<D: Disk>(
-    manifest: &Manifest,
-    disk: &mut D,
-    edits: &[Edit],
-    bytes: &[u8],
-) -> Result<(), CommitError>
-    requires kept { IsKept (D.may_leave disk.old) manifest.now }
-    requires formed { is_formed manifest.now.file (all_done manifest.now.state edits.now) ≡ true }
-    requires spelled { bytes.now ≡ flat_map spelling.edit edits.now }
-    requires fits { All EditFits edits.now }
-    requires sized { length bytes.now < 2 ^ 64 }
-    ensures kept { OnOk result ((next : Manifest) → IsAppended manifest.now (all_done manifest.now.state edits.now) (length bytes.now) next → IsKept (D.may_leave disk.new) next) }
-    ensures any_moment { LeavesOnly D.moment D.left_since disk.old disk.new (OldOrNew (D.may_leave disk.old) manifest.now.file (has_of manifest.now) (has_with manifest.now (all_done manifest.now.state edits.now))) }
-    ensures memory { IsErrOf result CommitError.Memory → IsKept (D.may_leave disk.new) manifest.now }
-    ensures room { OnOk result (manifest.now.at + 9 + length bytes.now < 2 ^ 63) }
-    ensures others { SameBut manifest.now.file (D.files disk.old) (D.files disk.new) }
-    ensures counted { Counted D.fault_count D.reader_fault_count D.never_fails disk.old disk.new }
-    ensures device { IsErrOf result CommitError.Device → Rose (D.fault_count disk.old) (D.fault_count disk.new) }
-{
-    commit(manifest.alloc, disk, manifest.file, manifest.at, bytes)
 }
 
 impl Manifest {
@@ -86,10 +51,17 @@ impl Manifest {
         let alloc = self.alloc;
         let bytes = spelled(alloc, edits)?;
         let copies = copied(alloc, edits)?;
-        let spare = room(alloc, self.state.segments.len(), copies.len())?;
-        append(self, disk, edits, bytes.as_slice())?;
-        self.at += 9 + bytes.len() as u64;
-        do_all(&mut self.state, copies, spare);
-        Ok(())
+        let ready = make_ready(alloc, &mut self.state, copies)?;
+        match commit(alloc, disk, self.file, self.at, bytes.as_slice()) {
+            Ok(()) => {
+                self.at += 9 + bytes.len() as u64;
+                do_all(&mut self.state, ready, edits);
+                Ok(())
+            }
+            Err(error) => {
+                cancel(&mut self.state, ready);
+                Err(error)
+            }
+        }
     }
 }

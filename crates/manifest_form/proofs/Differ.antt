@@ -29,7 +29,7 @@ none_kept : (id : ℕ) (s : StoredSegment) (rest : List StoredSegment) (b : Bool
 none_kept id s rest true other none = (other refl, none)
 none_kept id s rest false other none = none
 
-without_none : (id : ℕ) (segments : List StoredSegment) → HasNone id (without id segments)
+pub without_none : (id : ℕ) (segments : List StoredSegment) → HasNone id (without id segments)
 without_none id [] = tt
 without_none id (s ∷ rest) = none_kept id s (without id rest) (not (eqb s.id id)) (other_id s.id id) (without_none id rest)
 

@@ -1,4 +1,8 @@
 pub mod Loop
+pub mod Slotting
+pub mod Rooms
+pub mod Faults
+pub mod Growth
 pub mod Walking
 pub mod Again
 pub mod HeaderAgain

@@ -10,3 +10,5 @@ pub mod Spelling
 pub mod Takes
 pub mod Roots
 pub mod Whole
+pub mod Slots
+pub mod Counting

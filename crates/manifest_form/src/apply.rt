@@ -1,83 +1,30 @@
 // How edits change a state.
-ghost use Rattle.std.specs.Prelude.{◌≡◌, ◌++◌, ◌∷◌, OnOk, IsTrue, Some, take, drop, length, vec_len, ◌≤◌, ◌&&◌};
-ghost use Rattle.std.specs.Vec.{vec_capacity};
+ghost use Rattle.std.specs.Prelude.{◌≡◌, OnOk, Some, ◌&&◌};
 ghost use Rattle.std.specs.List.{list_any, list_all};
-ghost use Rattle.manifest_form.specs.States.{placed, without, done, holds_any, cover_from, name_below, file_below, segment_below, all_below, is_formed, all_done, is_high, is_safe_point};
-ghost use Rattle.manifest_form.specs.declared.state.StoredSegment.{StoredSegment};
+ghost use Rattle.manifest_form.specs.States.{placed, without, holds_any, cover_from, name_below, file_below, segment_below, all_below, is_formed, is_high, is_safe_point};
+ghost use Rattle.manifest_form.specs.Slots.{present, slot_below, end_of};
 
-use crate::state::{Edit, Edits, State, StoredFile, StoredSegment, StoredSegments};
+use crate::slots::{Places, forget, put, take_out};
+use crate::state::{Edit, State, StoredFile, StoredSegment, StoredSegments};
 use flash_io::FileId;
 use flash_types::{HandleRange, SegId};
 use std::alloc::AllocError;
 
-// How many segments stand before one that begins at this handle.
-pub fn place_of(segments: &[StoredSegment], low: i64) -> usize
-    ensures within { result ≤ length segments.now }
-    ensures placed { (segment : StoredSegment) → segment.range.low ≡ low → placed segment segments.now ≡ take result segments.now ++ segment ∷ drop result segments.now }
-{
-    for place in 0..segments.len() {
-        if low < segments[place].range.low {
-            return place;
-        }
-    }
-    segments.len()
-}
-
-pub fn take_out(segments: &mut Vec<StoredSegment>, id: SegId)
-    ensures items { segments.new.items ≡ without id segments.old.items }
-    ensures bound { vec_len segments.new ≤ vec_len segments.old }
-    ensures capacity { vec_capacity segments.new ≡ vec_capacity segments.old }
-{
-    segments.retain(|segment| segment.id != id);
-}
-
 impl StoredSegments {
-    fn remove(&mut self, id: SegId)
+    /// Takes a segment out, if there is one with this id.
+    pub(crate) fn remove(&mut self, id: SegId)
         ensures { self.new ≡ without id self.old }
     {
-        take_out(&mut self.segments, id);
+        take_out(&mut self.slots, id);
+        forget(&mut self.slots, id);
     }
 
-    fn put(&mut self, segment: StoredSegment) -> Result<(), AllocError>
+    /// Puts a segment in place of the one with its id.
+    pub(crate) fn put(&mut self, segment: StoredSegment) -> Result<(), AllocError>
         ensures { OnOk result (self.new ≡ placed segment (without segment.id self.old)) }
     {
-        self.remove(segment.id);
-        let place = place_of(self.segments.as_slice(), segment.range.low);
-        match self.segments.insert(place, segment) {
-            Ok(()) => Ok(()),
-            Err(_) => Err(AllocError),
-        }
+        put(&mut self.slots, segment)
     }
-}
-
-impl State {
-    /// Does one edit.
-    pub(crate) fn apply(&mut self, edit: Edit) -> Result<(), AllocError>
-        ensures { OnOk result (self.new ≡ done self.old edit) }
-    {
-        match edit {
-            Edit::Next { file } => self.next = file,
-            Edit::Segment { segment } => self.segments.put(segment)?,
-            Edit::Drop { id } => self.segments.remove(id),
-            Edit::High { entries, chain } => {
-                self.high = entries;
-                self.chain = chain;
-            }
-            Edit::SafePoint { ts } => self.safe_point = ts,
-            Edit::Regions { file } => self.regions = Some(file),
-        }
-        Ok(())
-    }
-}
-
-/// Does edits, in order.
-pub fn apply_all(state: &mut State, edits: Edits) -> Result<(), AllocError>
-    ensures { OnOk result (state.new ≡ all_done state.old edits) }
-{
-    for edit in edits.into_vec() {
-        state.apply(edit)?;
-    }
-    Ok(())
 }
 
 fn is_high(edit: &Edit) -> bool
@@ -117,7 +64,7 @@ pub fn sets_marks(edits: &[Edit]) -> bool
     any_high(edits) && any_safe_point(edits)
 }
 
-fn name_below(next: u32, name: Option<FileId>) -> bool
+pub fn name_below(next: u32, name: Option<FileId>) -> bool
     ensures { result ≡ name_below next name }
 {
     match name {
@@ -149,22 +96,35 @@ fn segment_below(next: u32, segment: &StoredSegment) -> bool
         && files_below(next, segment.delta.as_slice())
 }
 
-fn segments_below(next: u32, segments: &[StoredSegment]) -> bool
-    ensures { result ≡ list_all (segment_below next) segments.now }
+fn slot_below(next: u32, slot: &Option<StoredSegment>) -> bool
+    ensures { result ≡ slot_below next slot.now }
 {
-    segments.iter().all(|segment| segment_below(next, segment))
+    match slot {
+        None => true,
+        Some(segment) => segment_below(next, segment),
+    }
+}
+
+fn segments_below(next: u32, places: &Places) -> bool
+    ensures { result ≡ list_all (segment_below next) (present places.now.entries) }
+{
+    for slot in places.values() {
+        if !slot_below(next, slot) {
+            return false;
+        }
+    }
+    true
 }
 
 // Whether all numbers in use are below this one.
 fn all_below(next: u32, file: FileId, state: &State) -> bool
     ensures { result ≡ all_below next file state.now }
 {
-    file < next
-        && name_below(next, state.regions)
-        && segments_below(next, state.segments.as_slice())
+    let segments = &state.segments;
+    file < next && name_below(next, state.regions) && segments_below(next, &segments.slots.places)
 }
 
-fn holds_any(range: &HandleRange) -> bool
+pub fn holds_any(range: &HandleRange) -> bool
     ensures { result ≡ holds_any range.now }
 {
     match range.high {
@@ -173,18 +133,31 @@ fn holds_any(range: &HandleRange) -> bool
     }
 }
 
-fn covers(least: i64, segments: &[StoredSegment]) -> bool
-    ensures { result ≡ cover_from (Some least) segments.now }
+// Where the ranges go on behind a slot, if they went on there; the first None is a gap.
+fn end_of(from: Option<i64>, slot: &Option<StoredSegment>) -> Option<Option<i64>>
+    ensures { result ≡ end_of from slot.now }
+{
+    let Some(segment) = slot else {
+        return Some(from);
+    };
+    let Some(low) = from else {
+        return None;
+    };
+    if segment.range.low != low || !holds_any(&segment.range) {
+        return None;
+    }
+    Some(segment.range.high)
+}
+
+fn covers(least: i64, places: &Places) -> bool
+    ensures { result ≡ cover_from (Some least) (present places.now.entries) }
 {
     let mut from = Some(least);
-    for segment in segments {
-        let Some(low) = from else {
+    for slot in places.values() {
+        let Some(next) = end_of(from, slot) else {
             return false;
         };
-        if segment.range.low != low || !holds_any(&segment.range) {
-            return false;
-        }
-        from = segment.range.high;
+        from = next;
     }
     from.is_none()
 }
@@ -194,5 +167,6 @@ fn covers(least: i64, segments: &[StoredSegment]) -> bool
 pub fn is_formed(file: FileId, state: &State) -> bool
     ensures { result ≡ is_formed file state.now }
 {
-    all_below(state.next, file, state) && covers(i64::MIN, state.segments.as_slice())
+    let segments = &state.segments;
+    all_below(state.next, file, state) && covers(i64::MIN, &segments.slots.places)
 }

@@ -1,12 +1,18 @@
 // Edits that are done without memory, once there is room for them.
-ghost use Rattle.std.specs.Prelude.{◌≡◌, ◌≤◌, ◌<◌, ◌+◌, [], length, vec_len, IfOk};
-ghost use Rattle.std.specs.Vec.{vec_capacity};
+ghost use Rattle.std.specs.Prelude.{◌≡◌, ◌≤◌, ◌+◌, [], ℕ, ℤ, true, IfOk, OnOk, OnErr, is_some};
+ghost use Rattle.std.specs.BTreeMap.{get};
+ghost use Rattle.std.specs.Ordering.{nat_cmp};
+ghost use Rattle.manifest_form.specs.declared.state.Edit.TheVariants as edit;
+ghost use Rattle.manifest_form.specs.Slots.{place_cmp, present, turn_after, AllFit, HasRoom, HaveRoom};
 ghost use Rattle.manifest_form.specs.States.{placed, without, done, with_segments, all_done};
 ghost use Rattle.manifest_form.specs.Whole.{IdsDiffer};
 
-use crate::apply::{place_of, take_out};
+use crate::room::{clear_room, forget_dropped, make_room};
+use crate::slots::{Slots, put, take_out};
 use crate::state::{Edit, State, StoredFile, StoredFiles, StoredSegment, StoredSegments};
 use std::alloc::{AllocError, Global};
+use std::marker::Model;
+use std::mem::replace;
 
 fn copied_files(alloc: Global, files: &[StoredFile]) -> Result<StoredFiles, AllocError>
     ensures { IfOk result (λ copy. copy ≡ files.now) }
@@ -56,29 +62,106 @@ pub fn copied(alloc: Global, edits: &[Edit]) -> Result<Vec<Edit>, AllocError>
     Ok(copy)
 }
 
-// There is room for one more.
-fn put(segments: &mut Vec<StoredSegment>, segment: StoredSegment)
-    requires room { vec_len segments.old < vec_capacity segments.old }
-    ensures items { segments.new.items ≡ placed segment (without segment.id segments.old.items) }
-    ensures len { vec_len segments.new ≤ vec_len segments.old + 1 }
-    ensures capacity { vec_capacity segments.old ≤ vec_capacity segments.new }
-{
-    take_out(segments, segment.id);
-    let place = place_of(segments.as_slice(), segment.range.low);
-    let _ = segments.insert(place, segment);
+/// The segments of a state, with room for those that some edits put, and the edits. Contracts see
+/// the segments and the edits.
+#[derive(Drop)]
+pub struct Ready {
+    slots: Slots,
+    edits: Vec<Edit>,
 }
 
-// Does one edit. The segments stand apart from the state.
-fn do_one(state: &mut State, segments: &mut Vec<StoredSegment>, edit: Edit)
-    requires room { vec_len segments.old < vec_capacity segments.old }
-    ensures done { with_segments state.new segments.new.items ≡ done (with_segments state.old segments.old.items) edit }
-    ensures len { vec_len segments.new ≤ vec_len segments.old + 1 }
-    ensures capacity { vec_capacity segments.old ≤ vec_capacity segments.new }
+impl Model for Ready {
+    ghost use Rattle.std.specs.Prelude.{List};
+    ghost use Rattle.manifest_form.specs.declared.state.StoredSegment.{StoredSegment};
+    ghost use Rattle.manifest_form.specs.declared.state.Edit.{Edit};
+
+    ghost Value = { List StoredSegment × List Edit };
+
+    ghost use Rattle.std.specs.Prelude.{is_some};
+    ghost use Rattle.std.specs.BTreeMap.{get};
+    ghost use Rattle.std.specs.Ordering.{nat_cmp};
+    ghost use Rattle.manifest_form.specs.Slots.{place_cmp, present, AllFit, HaveRoom};
+
+    ghost view = { λ it. (present it.slots.places.entries, it.edits.items) };
+
+    ghost invariant = { λ it. AllFit (get nat_cmp it.slots.ids) it.slots.turn it.slots.places.entries × HaveRoom (λ q. is_some (get place_cmp it.slots.places q)) (λ i. is_some (get nat_cmp it.slots.ids i)) it.edits.items it.slots.turn };
+}
+
+// Takes the segments out of a state.
+fn taken(alloc: Global, state: &mut State) -> Slots
+    ensures segments { present result.places.entries ≡ state.old.segments }
+    ensures fits { AllFit (get nat_cmp result.ids) result.turn result.places.entries }
+    ensures state { state.new ≡ with_segments state.old [] }
+{
+    let segments = replace(&mut state.segments, StoredSegments::new(alloc));
+    segments.slots
+}
+
+// Puts segments into a state.
+fn give_back(state: &mut State, slots: Slots)
+    requires fits { AllFit (get nat_cmp slots.ids) slots.turn slots.places.entries }
+    ensures { state.new ≡ with_segments state.old (present slots.places.entries) }
+{
+    state.segments = StoredSegments { slots };
+}
+
+/// Takes the segments out of a state and makes room for the edits. Without memory the state stays
+/// as it is.
+pub fn make_ready(alloc: Global, state: &mut State, edits: Vec<Edit>) -> Result<Ready, AllocError>
+    ensures ready { IfOk result (λ ready. ready ≡ (state.old.segments, edits.items)) }
+    ensures taken { OnOk result (state.new ≡ with_segments state.old []) }
+    ensures refused { OnErr result (state.new ≡ state.old) }
+{
+    let mut slots = taken(alloc, state);
+    match make_room(&mut slots, edits.as_slice()) {
+        Ok(()) => Ok(Ready { slots, edits }),
+        Err(_) => {
+            clear_room(&mut slots, edits.as_slice());
+            give_back(state, slots);
+            Err(AllocError)
+        }
+    }
+}
+
+/// Puts the segments back as they were.
+pub fn cancel(state: &mut State, ready: Ready)
+    ensures { state.new ≡ with_segments state.old ready.0 }
+{
+    let Ready { mut slots, edits } = ready;
+    clear_room(&mut slots, edits.as_slice());
+    give_back(state, slots);
+}
+
+// Puts a segment for which there is room.
+fn put_ready(slots: &mut Slots, segment: StoredSegment)
+    requires fits { AllFit (get nat_cmp slots.old.ids) slots.old.turn slots.old.places.entries }
+    requires room { HasRoom (λ q. is_some (get place_cmp slots.old.places q)) (λ i. is_some (get nat_cmp slots.old.ids i)) (edit.Segment segment) slots.old.turn }
+    ensures segments { present slots.new.places.entries ≡ placed segment (without segment.id (present slots.old.places.entries)) }
+    ensures fits { AllFit (get nat_cmp slots.new.ids) slots.new.turn slots.new.places.entries }
+    ensures turn { slots.new.turn ≡ slots.old.turn + 1 }
+    ensures known { (i : ℕ) → is_some (get nat_cmp slots.old.ids i) ≡ true → is_some (get nat_cmp slots.new.ids i) ≡ true }
+    ensures later { (q : ℤ × ℕ) → slots.old.turn ≤ q.1 → is_some (get place_cmp slots.old.places q) ≡ true → is_some (get place_cmp slots.new.places q) ≡ true }
+{
+    match put(slots, segment) {
+        Ok(()) => {}
+        Err(_) => unreachable!(),
+    }
+}
+
+// Does one edit, for which there is room. The segments stand apart from the state.
+fn do_one(state: &mut State, slots: &mut Slots, edit: Edit)
+    requires fits { AllFit (get nat_cmp slots.old.ids) slots.old.turn slots.old.places.entries }
+    requires room { HasRoom (λ q. is_some (get place_cmp slots.old.places q)) (λ i. is_some (get nat_cmp slots.old.ids i)) edit slots.old.turn }
+    ensures done { with_segments state.new (present slots.new.places.entries) ≡ done (with_segments state.old (present slots.old.places.entries)) edit }
+    ensures fits { AllFit (get nat_cmp slots.new.ids) slots.new.turn slots.new.places.entries }
+    ensures turn { slots.new.turn ≡ turn_after edit slots.old.turn }
+    ensures known { (i : ℕ) → is_some (get nat_cmp slots.old.ids i) ≡ true → is_some (get nat_cmp slots.new.ids i) ≡ true }
+    ensures later { (q : ℤ × ℕ) → slots.old.turn ≤ q.1 → is_some (get place_cmp slots.old.places q) ≡ true → is_some (get place_cmp slots.new.places q) ≡ true }
 {
     match edit {
         Edit::Next { file } => state.next = file,
-        Edit::Segment { segment } => put(segments, segment),
-        Edit::Drop { id } => take_out(segments, id),
+        Edit::Segment { segment } => put_ready(slots, segment),
+        Edit::Drop { id } => take_out(slots, id),
         Edit::High { entries, chain } => {
             state.high = entries;
             state.chain = chain;
@@ -88,41 +171,29 @@ fn do_one(state: &mut State, segments: &mut Vec<StoredSegment>, edit: Edit)
     }
 }
 
-// Moves the segments to a place that has room for them.
-fn move_all(from: &mut StoredSegments, to: &mut Vec<StoredSegment>)
-    requires empty { to.old.items ≡ [] }
-    requires room { length from.old ≤ vec_capacity to.old }
-    ensures items { to.new.items ≡ from.old }
-    ensures len { vec_len to.new ≡ length from.old }
-    ensures capacity { vec_capacity to.old ≤ vec_capacity to.new }
+// Does edits for which there is room, in order.
+fn do_each(state: &mut State, slots: &mut Slots, edits: Vec<Edit>)
+    requires fits { AllFit (get nat_cmp slots.old.ids) slots.old.turn slots.old.places.entries }
+    requires room { HaveRoom (λ q. is_some (get place_cmp slots.old.places q)) (λ i. is_some (get nat_cmp slots.old.ids i)) edits.items slots.old.turn }
+    ensures done { with_segments state.new (present slots.new.places.entries) ≡ all_done (with_segments state.old (present slots.old.places.entries)) edits.items }
+    ensures fits { AllFit (get nat_cmp slots.new.ids) slots.new.turn slots.new.places.entries }
 {
-    let from = &mut from.segments;
-    let _ = to.append(from);
-}
-
-// Does edits, in order.
-fn do_each(state: &mut State, edits: Vec<Edit>, spare: Vec<StoredSegment>)
-    requires empty { spare.items ≡ [] }
-    requires room { length state.old.segments + vec_len edits ≤ vec_capacity spare }
-    ensures { state.new ≡ all_done state.old edits.items }
-{
-    let mut segments = spare;
-    move_all(&mut state.segments, &mut segments);
     for edit in edits {
-        do_one(state, &mut segments, edit);
+        do_one(state, slots, edit);
     }
-    state.segments = StoredSegments { segments };
 }
 
-/// Does edits, in order. `spare` becomes the place of the segments, and has room for them and one
-/// more for each edit, so that no memory is taken.
-pub fn do_all(state: &mut State, edits: Vec<Edit>, spare: Vec<StoredSegment>)
-    requires empty { spare.items ≡ [] }
-    requires room { length state.old.segments + vec_len edits ≤ vec_capacity spare }
-    ensures done { state.new ≡ all_done state.old edits.items }
+/// Does the edits for which there is room, in order, and puts the segments into the state. No
+/// memory is taken. `same` is to be the same edits: the ids of segments that they drop are
+/// forgotten.
+pub fn do_all(state: &mut State, ready: Ready, same: &[Edit])
+    ensures done { state.new ≡ all_done (with_segments state.old ready.0) ready.1 }
 
     // No two segments come to have the same id.
-    ensures differ { IdsDiffer state.old.segments → IdsDiffer state.new.segments }
+    ensures differ { IdsDiffer ready.0 → IdsDiffer state.new.segments }
 {
-    do_each(state, edits, spare);
+    let Ready { mut slots, edits } = ready;
+    do_each(state, &mut slots, edits);
+    forget_dropped(&mut slots, same);
+    give_back(state, slots);
 }

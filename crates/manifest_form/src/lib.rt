@@ -8,19 +8,24 @@
 
 mod apply;
 mod change;
+mod counting;
 mod edit;
 mod fault;
 mod field;
+mod growing;
 mod header;
 mod laws;
 mod put;
 mod recover;
+mod room;
 mod root;
+mod slots;
 mod state;
+mod tops;
 mod whole;
 
 pub use apply::is_formed;
-pub use change::{copied, do_all};
+pub use change::{Ready, cancel, copied, do_all, make_ready};
 pub use fault::Fault;
 pub use header::{Columns, Header};
 pub use laws::{edits_are_read_again, headers_are_read_again, whole_states_are_done_again};

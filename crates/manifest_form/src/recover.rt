@@ -2,18 +2,19 @@
 ghost use Rattle.std.specs.Prelude.{◌≡◌, ◌≤◌, ◌-◌, ◌+◌, ◌++◌, List, ℕ, length, true, Some, None, OnOk, IfOk};
 ghost use Rattle.column_block.specs.Schemas.{IsSchema};
 ghost use Rattle.manifest_form.specs.Faults.{Gives};
-ghost use Rattle.manifest_form.specs.States.{changed, nothing, is_formed, AllFormed};
+ghost use Rattle.manifest_form.specs.States.{changed, is_formed, AllFormed};
 ghost use Rattle.manifest_form.specs.Takes.{Takes, ClosedAt, Closes, IsManifest};
 ghost use Rattle.manifest_form.specs.Walk.{walk, manifest_step, state_of, manifest_of};
 ghost use Rattle.manifest_form.specs.Whole.{IdsDiffer};
 
-use crate::apply::{apply_all, is_formed, sets_marks};
+use crate::apply::sets_marks;
 use crate::edit::edits_of;
 use crate::fault::Fault;
 use crate::field::here;
+use crate::growing::{Growing, apply_all};
 use crate::header::{Header, header_of};
 use crate::root::record_of;
-use crate::state::{Edit, State, StoredSegments};
+use crate::state::{Edit, State};
 use flash_io::FileId;
 use std::alloc::Global;
 
@@ -24,28 +25,15 @@ pub struct Recovered {
     pub state: State,
 }
 
-fn nothing(alloc: Global) -> State
-    ensures { result ≡ nothing }
-{
-    State {
-        next: 0,
-        segments: StoredSegments::new(alloc),
-        high: 0,
-        chain: [0; 32],
-        safe_point: 0,
-        regions: None,
-    }
-}
-
 // The state that a record changes.
-fn changed(alloc: Global, before: Option<State>, edits: &[Edit]) -> Option<State>
+fn changed(alloc: Global, before: Option<Growing>, edits: &[Edit]) -> Option<Growing>
     ensures { result ≡ changed before edits.now }
 {
     match before {
         Some(state) => Some(state),
         None => {
             if sets_marks(edits) {
-                Some(nothing(alloc))
+                Some(Growing::new(alloc))
             } else {
                 None
             }
@@ -60,21 +48,21 @@ fn step(
     file: FileId,
     gate: u64,
     stop: u64,
-    before: Option<State>,
+    before: Option<Growing>,
     bytes: &[u8],
-) -> Result<State, Fault>
+) -> Result<Growing, Fault>
     ensures gives { Gives Some result (manifest_step file gate stop before bytes.now) }
     ensures formed { IfOk result (λ s. is_formed file s ≡ true) }
 {
     let edits = edits_of(alloc, stop, bytes)?;
-    let Some(mut state) = changed(alloc, before, edits.as_slice()) else {
+    let Some(before) = changed(alloc, before, edits.as_slice()) else {
         return Err(Fault::At { at: gate });
     };
-    apply_all(&mut state, edits)?;
-    if !is_formed(file, &state) {
+    let after = apply_all(before, edits)?;
+    if !after.is_formed(file) {
         return Err(Fault::At { at: gate });
     }
-    Ok(state)
+    Ok(after)
 }
 
 // What the records make of a state that isn't there yet, and the place of the gate behind them.
@@ -83,7 +71,7 @@ fn walked(
     file: FileId,
     len: u64,
     bytes: &[u8],
-) -> Result<(Option<State>, u64), Fault>
+) -> Result<(Option<Growing>, u64), Fault>
     requires within { length bytes.now ≤ len }
     ensures gives { Gives (λ x. x.0) result (walk (manifest_step file) None len (length bytes.now) None bytes.now) }
     ensures formed { IfOk result (λ x. AllFormed file x.0) }
@@ -114,7 +102,7 @@ fn state_of(alloc: Global, file: FileId, end: u64, bytes: &[u8]) -> Result<(Stat
     let (found, at) = walked(alloc, file, end, bytes)?;
     match found {
         None => Err(here(end, bytes)),
-        Some(state) => Ok((state, at)),
+        Some(state) => Ok((state.into_state(), at)),
     }
 }
 

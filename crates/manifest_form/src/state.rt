@@ -1,10 +1,11 @@
 // What a store has named, and the edits that change it.
-ghost use Rattle.std.specs.Prelude.{◌≡◌, [], length};
+ghost use Rattle.std.specs.Prelude.{◌≡◌, [], map, IfOk};
 
+use crate::slots::{Slots, listed, no_slots};
 use flash_io::FileId;
 use flash_list::Items;
 use flash_types::{HandleRange, SegId, Ts};
-use std::alloc::Global;
+use std::alloc::{AllocError, Global};
 use std::marker::Model;
 
 /// A part of a segment's delta, as it stands on the disk.
@@ -29,10 +30,11 @@ pub struct StoredSegment {
     pub delta: StoredFiles,
 }
 
-/// Segments in the order of the low ends of their ranges. Contracts see the list.
+/// Segments in the order of the low ends of their ranges. Contracts see the list. They are kept in
+/// ordered maps, by their places and by their ids.
 #[derive(Debug, Drop)]
 pub struct StoredSegments {
-    pub(crate) segments: Vec<StoredSegment>,
+    pub(crate) slots: Slots,
 }
 
 impl Model for StoredSegments {
@@ -41,7 +43,13 @@ impl Model for StoredSegments {
 
     ghost Value = { List StoredSegment };
 
-    ghost view = { λ it. it.segments.items };
+    ghost use Rattle.std.specs.BTreeMap.{get};
+    ghost use Rattle.std.specs.Ordering.{nat_cmp};
+    ghost use Rattle.manifest_form.specs.Slots.{present, AllFit};
+
+    ghost view = { λ it. present it.slots.places.entries };
+
+    ghost invariant = { λ it. AllFit (get nat_cmp it.slots.ids) it.slots.turn it.slots.places.entries };
 }
 
 impl StoredSegments {
@@ -50,22 +58,15 @@ impl StoredSegments {
         ensures { result ≡ [] }
     {
         StoredSegments {
-            segments: Vec::new(alloc),
+            slots: no_slots(alloc),
         }
     }
 
-    /// The number of segments.
-    pub fn len(&self) -> usize
-        ensures { result ≡ length self.now }
-    {
-        self.segments.len()
-    }
-
     /// All segments, in the order of their ranges.
-    pub fn as_slice(&self) -> &[StoredSegment]
-        ensures { result.now ≡ self.now }
+    pub fn list(&self, alloc: Global) -> Result<Vec<&StoredSegment>, AllocError>
+        ensures { IfOk result (λ list. map (λ segment. segment.now) list.items ≡ self.now) }
     {
-        self.segments.as_slice()
+        listed(alloc, &self.slots.places)
     }
 }
 

@@ -1,25 +1,39 @@
 // A state, whole, as the edits of one record.
-ghost use Rattle.std.specs.Prelude.{◌≡◌, ◌++◌, ◌∷◌, map, length, OnOk, IfOk};
+ghost use Rattle.std.specs.Prelude.{◌≡◌, ◌++◌, ◌∷◌, [], map, OnOk, IfOk};
 ghost use Rattle.manifest_form.specs.declared.state.StoredSegment.{StoredSegment};
 ghost use Rattle.manifest_form.specs.declared.state.Edit.TheVariants as edit;
+ghost use Rattle.manifest_form.specs.Slots.{somes, present};
 ghost use Rattle.manifest_form.specs.Whole.{region_edits, whole_edits};
 
 use crate::change::copied_segment;
+use crate::slots::Places;
 use crate::state::{Edit, State, StoredSegment};
 use flash_io::FileId;
 use std::alloc::{AllocError, Global};
 
-// One edit for each segment.
-fn put_segments(
+fn put_slot(
     alloc: Global,
-    segments: &[StoredSegment],
+    slot: &Option<StoredSegment>,
     into: &mut Vec<Edit>,
 ) -> Result<(), AllocError>
-    ensures { OnOk result (into.new.items ≡ into.old.items ++ map (λ (segment : StoredSegment). edit.Segment segment) segments.now) }
+    ensures { OnOk result (into.new.items ≡ into.old.items ++ map (λ (segment : StoredSegment). edit.Segment segment) (somes (slot.now ∷ []))) }
 {
-    for segment in segments {
-        let segment = copied_segment(alloc, segment)?;
-        into.push(Edit::Segment { segment })?;
+    match slot {
+        None => Ok(()),
+        Some(segment) => {
+            let segment = copied_segment(alloc, segment)?;
+            into.push(Edit::Segment { segment })?;
+            Ok(())
+        }
+    }
+}
+
+// One edit for each segment.
+fn put_segments(alloc: Global, places: &Places, into: &mut Vec<Edit>) -> Result<(), AllocError>
+    ensures { OnOk result (into.new.items ≡ into.old.items ++ map (λ (segment : StoredSegment). edit.Segment segment) (present places.now.entries)) }
+{
+    for slot in places.values() {
+        put_slot(alloc, slot, into)?;
     }
     Ok(())
 }
@@ -42,7 +56,8 @@ pub fn whole_edits(alloc: Global, next: u32, state: &State) -> Result<Vec<Edit>,
 {
     let mut edits = Vec::new(alloc);
     edits.push(Edit::Next { file: next })?;
-    put_segments(alloc, state.segments.as_slice(), &mut edits)?;
+    let segments = &state.segments;
+    put_segments(alloc, &segments.slots.places, &mut edits)?;
     edits.push(Edit::High {
         entries: state.high,
         chain: state.chain,

@@ -1,6 +1,7 @@
-use Rattle.std.proofs.Common.{◌≡◌, drop, Some}
+use Rattle.std.proofs.Common.{◌≡◌, Some}
 use Rattle.manifest_form.specs.States.{cover_from}
+use Rattle.manifest_form.specs.Slots.{somes, present}
 use Rattle.manifest_form.proofs.apply.covers.Given as goal
 
-abbrev pub invariant-loop-segment : goal.invariant-loop-segment
-invariant-loop-segment l = cover_from l.from (drop l.segment-index l.segments) ≡ cover_from (Some l.least) l.segments
+abbrev pub invariant-loop-slot : goal.invariant-loop-slot
+invariant-loop-slot l = cover_from l.from (somes l.slot-iterator) ≡ cover_from (Some l.least) (present l.places.entries)

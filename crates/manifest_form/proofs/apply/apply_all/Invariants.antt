@@ -1,6 +1,0 @@
-use Rattle.std.proofs.Common.{◌≡◌}
-use Rattle.manifest_form.specs.States.{all_done}
-use Rattle.manifest_form.proofs.apply.apply_all.Given as goal
-
-abbrev pub invariant-loop-edit : goal.invariant-loop-edit
-invariant-loop-edit l = all_done l.state l.edit-iterator.rest.items ≡ all_done l.fn.state l.fn.edits
