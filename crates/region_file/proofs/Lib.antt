@@ -3,3 +3,8 @@ pub mod Rising
 pub mod Meeting
 mod Walking
 mod Loop
+pub mod FieldsAgain
+pub mod KeysRise
+pub mod FamiliesAgain
+pub mod RegionAgain
+pub mod FileAgain

@@ -19,6 +19,7 @@ use Rattle.committed_log.proofs.Maps.{Rise, Rise-filter}
 use Rattle.committed_log.proofs.Positions.{fold_push}
 use Rattle.region_file.specs.Regions.{meet}
 use Rattle.region_file.specs.Taken.{AreTaken, span, ends_by, last_of, goes_past}
+use Rattle.region_file.proofs.KeysRise.{handle_below}
 
 -- ---- parts of a map
 
@@ -165,15 +166,12 @@ module _ (range : HandleRange) (full : is_below range.low range.high ≡ true) w
   not_past a b None ends less = absurd (true≢false (sym ends))
   not_past a b (Some x) ends less = grind (arith, ints, ends, less)
 
-  less_is : (a b : ℤ) → int_cmp a b ≡ Less → int_lt a b ≡ true
-  less_is a b is = grind (arith, ints)
-
   last_any : (es : List Span) → Rise int_cmp es → AllByRecursion (λ e. before e ≡ true) es → Next es → list_any past es ≡ elim (last_of es) [ None ↦ false | Some e ↦ past e ]
   unfolding Next IsStrictlySortedBy
   last_any [] rise low next = refl
   last_any (e ∷ []) rise low next = or_turn (past e) false
   last_any (e ∷ f ∷ es) rise low next =
-      ap (λ b. b || list_any past (f ∷ es)) (not_past range.low f.0 e.1 (next.0.0 (less_is e.0 f.0 rise.0.0)) low.1.0) ∙ last_any (f ∷ es) rise.1 low.1 next.1
+      ap (λ b. b || list_any past (f ∷ es)) (not_past range.low f.0 e.1 (next.0.0 (handle_below e.0 f.0 rise.0.0)) low.1.0) ∙ last_any (f ∷ es) rise.1 low.1 next.1
 
   pub met_is : (es : List Span) (ranges : List HandleRange) → Rise int_cmp es → AreTaken es ranges → (list_any (λ (e : Span). holds range e.0) es || goes_past range.low es) ≡ list_any (meet range) ranges
   met_is es ranges rise taken =

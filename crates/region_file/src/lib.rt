@@ -15,12 +15,14 @@ mod entry;
 mod families;
 mod fault;
 mod field;
+mod laws;
 mod put;
 mod reading;
 mod taken;
 
 pub use entry::{Entries, Entry};
 pub use fault::TableError;
+pub use laws::files_are_read_again;
 pub use put::write_regions;
 pub use reading::read_regions;
 

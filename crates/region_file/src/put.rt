@@ -245,7 +245,8 @@ fn put_file(entries: &Entries, into: &mut Vec<u8>) -> Result<(), AllocError>
 /// Adds the file of these regions behind what `into` has, in its one spelling. It takes time by the
 /// bytes that it writes. After `Memory` `into` is as before.
 ///
-/// `read_regions` reads it.
+/// `read_regions` reads it as the same regions, if no handle lies in the ranges of two of them
+/// (`files_are_read_again`).
 pub fn write_regions(entries: &Entries, into: &mut Vec<u8>) -> Result<(), Memory>
     ensures ok { OnOk result (into.new.items ≡ into.old.items ++ spelling.file entries.now.entries) }
     ensures fits { OnOk result (CanBeWritten entries.now.entries) }
