@@ -7,7 +7,6 @@ mod counting;
 mod effect;
 mod fault;
 mod judge;
-mod kept;
 mod laws;
 mod live;
 mod ready;
@@ -16,7 +15,6 @@ mod table;
 
 pub use effect::Effect;
 pub use fault::ApplyError;
-pub use kept::Kept;
 pub use laws::{empty_tables_agree, faults_tell_ready, tables_tell_their_set};
 pub use table::{Counted, RegionTable};
 
