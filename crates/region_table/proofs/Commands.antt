@@ -23,11 +23,11 @@ use Rattle.committed_log.proofs.Owners.{tested, split_within, merge_touches}
 use Rattle.committed_log.proofs.Ranks.{same_number, region_here, region_there, of_live, of_unborn, no_entry}
 use Rattle.committed_log.proofs.Within.{filter-filter}
 use Rattle.raft_apply.specs.Entries.{command_of, changes}
+use Rattle.region_file.specs.declared.entry.Entry.{Entry as Kept}
+use Rattle.region_file.specs.declared.entry.Entry.TheVariants as kept
 use Rattle.region_state.specs.Folding.{folded}
 use Rattle.region_state.specs.State.{State, values_in, locks_in, lower_of, upper_of, absorbed}
 use Rattle.region_table.specs.Steps.{Keeps, changed, if_there, kept_after}
-use Rattle.region_table.specs.declared.kept.Kept.{Kept}
-use Rattle.region_table.specs.declared.kept.Kept.TheVariants as kept
 use Rattle.region_table.proofs.Around.{state_from, kept_from, kept_of}
 use Rattle.region_table.proofs.Families.{written, installed, bare_range, joined_values, joined_locks}
 use Rattle.region_table.proofs.Locals.{changed_here, changed_apart, is_acted}

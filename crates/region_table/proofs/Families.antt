@@ -15,9 +15,9 @@ use Rattle.committed_log.specs.Regions.{region, joined}
 use Rattle.committed_log.specs.Store.{Store, value_cmp}
 use Rattle.raft_apply.specs.Entries.{changes}
 use Rattle.std.specs.List.{list_all}
+use Rattle.region_file.specs.declared.entry.Entry.TheVariants as kept
 use Rattle.region_state.specs.Folding.{folded, lies_in, versions_of}
 use Rattle.good_replica.specs.Effect.{added}
-use Rattle.region_table.specs.declared.kept.Kept.TheVariants as kept
 use Rattle.region_state.specs.State.{State, values_in, locks_in, born, united}
 use Rattle.std.specs.Cmp.{int_cmp_total}
 use Rattle.std.proofs.lemmas.Map.Lookups.{exact_signed}

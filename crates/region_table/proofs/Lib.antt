@@ -14,3 +14,5 @@ pub mod Parsed
 pub mod Effected
 pub mod Nexts
 pub mod Empty
+pub mod Alike
+pub mod Agreeing

@@ -21,12 +21,12 @@ use Rattle.committed_log.proofs.Positions.{find_is, find_none, each_first}
 use Rattle.committed_log.proofs.Ranks.{of_unborn, no_entry}
 use Rattle.committed_log.proofs.Ready.{CanBeApplied, ready_parts, applied_before, first_is_ready}
 use Rattle.committed_log.proofs.Waiting.{ready_by_regions}
+use Rattle.region_file.specs.declared.entry.Entry.{Entry as Kept}
 use Rattle.region_table.specs.Applying.{apply_fault, fault_by, least_ready, next_ready}
 use Rattle.region_table.specs.Nexts.{lesser, ready_in, passes_in, next_kept, if_passes, least_next}
 use Rattle.region_table.specs.Table.{Table, IsTableAt, IsCounted, kept_in, kept_at, state_in, there_at}
 use Rattle.region_table.specs.Counting.{applied_in}
 use Rattle.region_table.specs.Faults.{prepare_at_end}
-use Rattle.region_table.specs.declared.kept.Kept.{Kept}
 use Rattle.region_table.specs.declared.table.Counted.{Counted}
 use Rattle.region_table.proofs.Behind.{found, ready_without, without_ready}
 use Rattle.region_table.proofs.Counts.{TellsFirst, first_tells}

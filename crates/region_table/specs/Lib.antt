@@ -7,3 +7,4 @@ pub mod Steps
 pub mod Effects
 pub mod Nexts
 pub mod Live
+pub mod Agreeing

@@ -2,8 +2,8 @@
 use Rattle.std.specs.Prelude.{ℕ, Bool, true, Option, Some, None, List, [], ◌∷◌, nat_lt, filter}
 use Rattle.std.specs.Option.{option_or}
 use Rattle.flash_types.specs.declared.ask.AskRegion.{AskRegion}
-use Rattle.region_table.specs.declared.kept.Kept.{Kept}
-use Rattle.region_table.specs.declared.kept.Kept.TheVariants as kept
+use Rattle.region_file.specs.declared.entry.Entry.{Entry as Kept}
+use Rattle.region_file.specs.declared.entry.Entry.TheVariants as kept
 
 abbrev pub is_above : Option ℕ → ℕ → Bool
 is_above None r = true

@@ -3,12 +3,12 @@ use Rattle.std.specs.Prelude.{ℕ, Bool, ◌&&◌, Option, Some, None, List, nat
 use Rattle.log_codec.specs.declared.entry.Entry.{Entry}
 use Rattle.committed_log.specs.Applied.{entry_is, next_of}
 use Rattle.committed_log.specs.Log.{Log}
+use Rattle.region_file.specs.declared.entry.Entry.{Entry as Kept}
+use Rattle.region_file.specs.declared.entry.Entry.TheVariants as kept
 use Rattle.region_table.specs.Applying.{fault_by}
 use Rattle.region_table.specs.Counting.{applied_in}
 use Rattle.region_table.specs.Faults.{prepare_at_end}
 use Rattle.region_table.specs.Table.{state_in}
-use Rattle.region_table.specs.declared.kept.Kept.{Kept}
-use Rattle.region_table.specs.declared.kept.Kept.TheVariants as kept
 
 abbrev pub lesser : Option ℕ → Option ℕ → Option ℕ
 lesser None b = b

@@ -9,9 +9,9 @@ use Rattle.committed_log.specs.Log.{Log, at}
 use Rattle.committed_log.specs.declared.region.Region.{Region}
 use Rattle.committed_log.specs.declared.region.Region.TheVariants.{Unborn, Live, Prepared, Gone}
 use Rattle.committed_log.specs.Replies.{locks_at}
+use Rattle.region_file.specs.declared.entry.Entry.{Entry as Kept}
+use Rattle.region_file.specs.declared.entry.Entry.TheVariants as kept
 use Rattle.region_state.specs.State.{State, values_in, locks_in}
-use Rattle.region_table.specs.declared.kept.Kept.{Kept}
-use Rattle.region_table.specs.declared.kept.Kept.TheVariants as kept
 use Rattle.region_table.specs.declared.table.Counted.{Counted}
 
 -- The regions that are born, by number, and, where it was counted, how many entries are applied and which is the first that isn't.

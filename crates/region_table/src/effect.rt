@@ -9,12 +9,12 @@ ghost use Rattle.region_table.specs.Table.{kept_in, IsTableAt, Agrees};
 ghost use Rattle.region_table.specs.declared.fault.ApplyError.TheVariants as fault;
 
 use crate::fault::ApplyError;
-use crate::kept::Kept;
 use crate::table::{RegionTable, Regions};
 use column_block::{Block, Memory, Schema};
 use committed_log::Logs;
 use flash_types::{HandleRange, RegionId};
 use raft_apply::{Command, Parsed};
+use region_file::Entry as Kept;
 use region_state::Region;
 use std::alloc::Global;
 

@@ -5,10 +5,10 @@ ghost use Rattle.committed_log.specs.Replies.{refused, same_epoch, unsettled_ref
 ghost use Rattle.region_table.specs.Judging.{locked, refused_there, refused_kept, refused_list};
 ghost use Rattle.region_table.specs.Table.{IsTableAt, kept_in};
 
-use crate::kept::Kept;
 use crate::table::{RegionTable, Regions};
 use committed_log::Logs;
 use flash_types::{Ask, AskRegion, Epoch, Refusal, RegionId, Ts, Wants};
+use region_file::Entry as Kept;
 use region_state::Region;
 
 // The lock that is in the way of a read of a region.

@@ -1,23 +1,26 @@
 //! The regions of a replica, as the entries that it has applied leave them: where each is, and what
-//! the default and the lock family have of its handles.
+//! the default and the lock family have of its handles. A checkpoint writes them to a file, and what
+//! is read from one is compared with the log.
 #![tactic(auto)]
 
+mod agree;
 mod apply;
 mod counting;
 mod effect;
 mod fault;
+mod file;
 mod judge;
-mod kept;
 mod laws;
 mod live;
 mod ready;
+mod same;
 mod step;
 mod table;
 
 pub use effect::Effect;
 pub use fault::ApplyError;
-pub use kept::Kept;
 pub use laws::{empty_tables_agree, faults_tell_ready, tables_tell_their_set};
+pub use region_file::TableError;
 pub use table::{Counted, RegionTable};
 
 #[cfg(test)]

@@ -2,9 +2,9 @@
 ghost use Rattle.std.specs.Prelude.{◌≡◌, filter};
 ghost use Rattle.region_table.specs.Live.{is_above, asked_kept, first_asked, next_there};
 
-use crate::kept::Kept;
 use crate::table::{RegionTable, Regions};
 use flash_types::{AskRegion, RegionId};
+use region_file::Entry as Kept;
 use std::collections::btree_map::Range;
 use std::ops::Bound;
 

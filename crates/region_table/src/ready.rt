@@ -5,11 +5,11 @@ ghost use Rattle.region_table.specs.Nexts.{lesser, ready_in, passes_in, next_kep
 ghost use Rattle.region_table.specs.Table.{IsTableAt};
 
 use crate::fault::fault_by;
-use crate::kept::Kept;
 use crate::table::{RegionTable, Regions};
 use committed_log::Logs;
 use flash_types::RegionId;
 use log_codec::Entry;
+use region_file::Entry as Kept;
 
 /// A part of the regions by their numbers, and a bound on positions.
 #[derive(Clone, Copy)]

@@ -1,18 +1,18 @@
 // What an entry does to the regions of a table.
 ghost use Rattle.std.specs.Prelude.{◌≡◌, ◌≢◌, ℕ, true, false, OnOk, OnErr, IfErr, IfSome, IsSome, Some, None, []};
 ghost use Rattle.std.specs.List.{list_all};
+ghost use Rattle.region_file.specs.declared.entry.Entry.TheVariants as kept;
 ghost use Rattle.region_state.specs.Folding.{folded, lies_in};
 ghost use Rattle.region_state.specs.State.{born, prepared, lower_of, upper_of, absorbed};
 ghost use Rattle.region_table.specs.Steps.{kept_after, changed, if_there, IfThere, IsThere, CanBeDone, CanSplit, CanRise, CanMerge};
 ghost use Rattle.region_table.specs.Table.{kept_in};
-ghost use Rattle.region_table.specs.declared.kept.Kept.TheVariants as kept;
 
-use crate::kept::Kept;
 use crate::table::Regions;
 use column_block::{Memory, Schema};
 use committed_log::FamilyOp;
 use flash_types::{Epoch, Handle, HandleRange, RegionId};
 use raft_apply::Command;
+use region_file::Entry as Kept;
 use region_state::Region;
 use std::alloc::Global;
 

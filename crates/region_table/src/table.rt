@@ -2,17 +2,18 @@
 ghost use Rattle.std.specs.Prelude.{◌≡◌, [], None};
 ghost use Rattle.committed_log.specs.Regions.{index_of};
 ghost use Rattle.committed_log.specs.Replies.{cut_of};
-ghost use Rattle.region_table.specs.Table.{empty_table, state_in};
+ghost use Rattle.region_table.specs.Table.{empty_table, state_in, state_there};
 
-use crate::kept::{Kept, state_there};
 use committed_log::Region as State;
 use flash_types::{Cut, RegionId};
+use region_file::{Entries, Entry as Kept};
+use region_state::Region;
 use std::alloc::Global;
 use std::collections::BTreeMap;
 use std::marker::Model;
 
 /// The regions that are born, by number.
-pub type Regions = BTreeMap<RegionId, Kept>;
+pub type Regions = Entries;
 
 /// What is counted of a log's entries.
 #[derive(Clone, Copy, Debug, PartialEq, Eq)]
@@ -39,6 +40,17 @@ impl Model for RegionTable {
     ghost Value = { Table };
 
     ghost view = { λ t. record { regions = t.regions.entries; counted = t.counted } };
+}
+
+// The state of a region that is there.
+fn state_there(region: &Region) -> State
+    ensures { result ≡ state_there region.now }
+{
+    let there = region.descriptor();
+    match region.target() {
+        None => State::Live(there),
+        Some(target) => State::Prepared(there, target),
+    }
 }
 
 /// The state in which a table has a region.

@@ -3,6 +3,7 @@ ghost use Rattle.std.specs.Prelude.{◌≡◌, IfOk};
 ghost use Rattle.committed_log.specs.Log.{Log};
 ghost use Rattle.region_table.specs.Table.{Agrees};
 
+mod files;
 mod lines;
 
 use crate::{ApplyError, RegionTable, empty_tables_agree};

@@ -1,9 +1,9 @@
 use Rattle.std.proofs.Common.{◌∙◌, sym, ap, w64, SFits}
 use Rattle.std.proofs.lemmas.Int.{to_z-of_z}
+use Rattle.region_file.specs.declared.entry.Entry.TheVariants as kept
 use Rattle.region_state.specs.State.{lower_of, upper_of}
 use Rattle.region_table.specs.Steps.{if_there, changed, Keeps}
 use Rattle.region_table.specs.Table.{kept_in}
-use Rattle.region_table.specs.declared.kept.Kept.TheVariants as kept
 use Rattle.region_table.proofs.Parting.{parted}
 use Rattle.region_table.proofs.step.part.Goals as goal
 

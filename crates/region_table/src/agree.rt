@@ -1,0 +1,108 @@
+// Whether a table is that of a log.
+ghost use Rattle.std.specs.Bool.{Decides};
+ghost use Rattle.std.specs.Prelude.{◌≡◌, ◌<◌, ◌+◌, ℕ, Bool, true, false, None, length, IfOk, IfSome};
+ghost use Rattle.committed_log.specs.Applied.{IsClosed, is_ready, with_position};
+ghost use Rattle.raft_apply.specs.Entries.{IsParsed};
+ghost use Rattle.region_table.specs.Agreeing.{below};
+ghost use Rattle.region_table.specs.Counting.{applied_in};
+ghost use Rattle.region_table.specs.Table.{IsTableAt, Agrees};
+
+use crate::counting::is_applied;
+use crate::fault::ApplyError;
+use crate::laws::empty_tables_agree;
+use crate::same::{has_counted, same_regions};
+use crate::table::{RegionTable, Regions};
+use column_block::Memory;
+use committed_log::Logs;
+use raft_apply::{Parsed, parse};
+use std::alloc::Global;
+
+// Applies an entry, and tells whether it was ready.
+fn apply_parsed(table: &mut RegionTable, logs: &Logs, parsed: &Parsed) -> Result<bool, Memory>
+    requires parsed { IsParsed logs.now parsed.now }
+    requires agrees { Agrees logs.now table.old }
+    ensures yes { IfOk result (λ b. b ≡ true → (A : ℕ → Bool) → IsTableAt logs.now A table.old → IsTableAt logs.now (with_position A parsed.now.position) table.new) }
+    ensures no { IfOk result (λ b. b ≡ false → (A : ℕ → Bool) → IsTableAt logs.now A table.old → is_ready logs.now A parsed.now.position ≡ false) }
+{
+    logs.told_lawful();
+    match table.apply(logs, parsed) {
+        Ok(()) => Ok(true),
+        Err(ApplyError::Done { .. }) => Ok(false),
+        Err(ApplyError::Early { .. }) => Ok(false),
+        Err(ApplyError::Memory) => Err(Memory),
+    }
+}
+
+// Applies the entry at a position to the table of those before it, where these regions tell that it
+// is applied. It is false where the entry isn't ready, so that no table has such regions.
+fn apply_next(
+    alloc: Global,
+    table: &mut RegionTable,
+    logs: &Logs,
+    regions: &Regions,
+    position: u64,
+) -> Result<bool, Memory>
+    requires within { position < length logs.now.entries }
+    requires before { IsTableAt logs.now (below position (applied_in logs.now regions.now.entries)) table.old }
+    ensures yes { IfOk result (λ b. b ≡ true → IsTableAt logs.now (below (position + 1) (applied_in logs.now regions.now.entries)) table.new) }
+    ensures no { IfOk result (λ b. b ≡ false → IsClosed logs.now (applied_in logs.now regions.now.entries) → ⊥) }
+{
+    if !is_applied(logs, regions, position) {
+        return Ok(true);
+    }
+    match parse(alloc, logs, position) {
+        Ok(parsed) => apply_parsed(table, logs, &parsed),
+        Err(_) => Err(Memory),
+    }
+}
+
+// The table to which the entries are applied that these regions tell are applied, in the order of the
+// log. There is none where one of them isn't ready in its turn.
+fn applied_anew(
+    alloc: Global,
+    logs: &Logs,
+    regions: &Regions,
+) -> Result<Option<RegionTable>, Memory>
+    ensures some { IfOk result (λ found. IfSome found (IsTableAt logs.now (applied_in logs.now regions.now.entries))) }
+    ensures none { IfOk result (λ found. found ≡ None → IsClosed logs.now (applied_in logs.now regions.now.entries) → ⊥) }
+{
+    empty_tables_agree();
+    let mut table = RegionTable::empty(alloc);
+    for position in 0..logs.len() {
+        match apply_next(alloc, &mut table, logs, regions, position) {
+            Ok(true) => {}
+            Ok(false) => return Ok(None),
+            Err(_) => return Err(Memory),
+        }
+    }
+    Ok(Some(table))
+}
+
+impl RegionTable {
+    // Whether it has what the table has to which its entries were applied anew.
+    fn is_same(&self, logs: &Logs, anew: &RegionTable) -> bool
+        requires { IsTableAt logs.now (applied_in logs.now self.now.regions) anew.now }
+        ensures { Decides result (IsTableAt logs.now (applied_in logs.now self.now.regions) self.now) }
+    {
+        // Give the proof that both have their regions in order.
+        let _own = self.regions.len();
+        let _other = anew.regions.len();
+        same_regions(&self.regions, &anew.regions) && has_counted(self.counted, anew.told(logs))
+    }
+
+    /// Whether the table is that of the log at some closed set of entries. Which these are its regions
+    /// tell by their indexes: the entries are applied to an empty table in the order of the log, and
+    /// the regions, their default values and their locks are compared, and what was counted. `Memory`
+    /// is want of memory. It goes over the log, and takes as long as to apply these entries.
+    pub fn agrees(&self, logs: &Logs) -> Result<bool, Memory>
+        ensures yes { IfOk result (λ b. b ≡ true → Agrees logs.now self.now) }
+        ensures no { IfOk result (λ b. Agrees logs.now self.now → b ≡ true) }
+    {
+        logs.told_lawful();
+        match applied_anew(self.alloc, logs, &self.regions) {
+            Ok(Some(anew)) => Ok(self.is_same(logs, &anew)),
+            Ok(None) => Ok(false),
+            Err(_) => Err(Memory),
+        }
+    }
+}
