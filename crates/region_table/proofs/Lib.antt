@@ -16,3 +16,4 @@ pub mod Nexts
 pub mod Empty
 pub mod Alike
 pub mod Agreeing
+pub mod Apart
