@@ -1,5 +1,6 @@
 -- What an entry does to the regions of a table.
-use Rattle.std.specs.Prelude.{◌≡◌, ◌≢◌, ℕ, ℤ, ◌<◌, ◌^◌, true, false, IsTrue, Option, Some, None, [], int_lt, cond}
+use Rattle.committed_log.specs.declared.op.FamilyOp.{FamilyOp}
+use Rattle.std.specs.Prelude.{List, ◌≡◌, ◌≢◌, ℕ, ℤ, ◌<◌, ◌^◌, true, false, IsTrue, Option, Some, None, [], int_lt, cond}
 use Rattle.std.specs.BTreeMap.{is_at}
 use Rattle.std.specs.List.{list_all}
 use Rattle.std.specs.Ordering.{nat_cmp}
@@ -25,6 +26,11 @@ abbrev pub if_there : Option Kept → (State → Keeps) → Keeps → Keeps
 if_there None g f = f
 if_there (Some (kept.Gone index)) g f = f
 if_there (Some (kept.There s)) g f = g s
+
+-- a region that is there, after these changes
+abbrev pub written : Kept → ℕ → List FamilyOp → Kept
+written (kept.Gone last) index ops = kept.Gone last
+written (kept.There s) index ops = kept.There (folded s index ops)
 
 -- what is kept after an entry of region r with this index
 abbrev pub kept_after : Keeps → ℕ → ℕ → Command → Keeps

@@ -4,7 +4,7 @@ ghost use Rattle.std.specs.List.{list_all};
 ghost use Rattle.region_file.specs.declared.entry.Entry.TheVariants as kept;
 ghost use Rattle.region_state.specs.Folding.{folded, lies_in};
 ghost use Rattle.region_state.specs.State.{born, prepared, lower_of, upper_of, absorbed};
-ghost use Rattle.region_table.specs.Steps.{kept_after, changed, if_there, IfThere, IsThere, CanBeDone, CanSplit, CanRise, CanMerge};
+ghost use Rattle.region_table.specs.Steps.{kept_after, changed, written, if_there, IfThere, IsThere, CanBeDone, CanSplit, CanRise, CanMerge};
 ghost use Rattle.region_table.specs.Table.{kept_in};
 
 use crate::table::Regions;
@@ -55,6 +55,21 @@ fn bear(regions: &mut Regions, id: RegionId, region: Region) -> Result<(), Memor
     }
 }
 
+// Makes changes where a region is there.
+fn write_in(kept: &mut Kept, index: u64, ops: &[FamilyOp], schema: &Schema) -> Result<(), Memory>
+    requires { IfThere (Some kept.old) (λ s. list_all (lies_in s.descriptor.range) ops.now ≡ true) }
+    ensures ok { OnOk result (kept.new ≡ written kept.old index ops.now) }
+    ensures err { OnErr result (kept.new ≡ kept.old) }
+{
+    match kept {
+        Kept::Gone { .. } => Ok(()),
+        Kept::There { region } => match region.fold(index, ops, schema) {
+            Ok(_) => Ok(()),
+            Err(_) => Err(Memory),
+        },
+    }
+}
+
 // The changes of an entry, in order.
 fn write(
     regions: &mut Regions,
@@ -67,18 +82,12 @@ fn write(
     ensures ok { OnOk result ((q : ℕ) → kept_in regions.new.entries q ≡ if_there (kept_in regions.old.entries id) (λ s. changed (kept_in regions.old.entries) id (kept.There (folded s index ops.now))) (kept_in regions.old.entries) q) }
     ensures err { OnErr result ((q : ℕ) → kept_in regions.new.entries q ≡ kept_in regions.old.entries q) }
 {
-    let Some(mut region) = take(regions, id) else {
-        return Ok(());
-    };
-    match region.fold(index, ops, schema) {
-        Ok(_) => {
-            set(regions, id, Kept::There { region });
-            Ok(())
-        }
-        Err(_) => {
-            set(regions, id, Kept::There { region });
-            Err(Memory)
-        }
+    match regions.get_mut(&id) {
+        Some(kept) => match write_in(kept, index, ops, schema) {
+            Ok(()) => Ok(()),
+            Err(_) => Err(Memory),
+        },
+        None => Ok(()),
     }
 }
 
