@@ -3,12 +3,13 @@ ghost use Rattle.std.specs.Prelude.{◌<◌, length};
 use super::*;
 use column_block::{Column, Kind, Schema};
 use flash_types::HandleRange;
-use log_codec::{Body, FrameError, read_frame};
+use log_codec::{Body, Entry, FrameError, Op, read_frame};
 use std::alloc::Global;
 use std::test::*;
 
 mod lines;
 mod lookups;
+mod ops;
 mod refusals;
 
 // A log with an Open and a Write of one row, as a file has it.
@@ -54,66 +55,107 @@ fn schema(alloc: Global) -> Result<Schema, Fail> {
 }
 
 // The digests are those of Python's hashlib.
+const HEADER: [u8; 32] = [
+    0x01, 0x0C, 0x15, 0x71, 0xC0, 0x44, 0x2A, 0xA9, 0xEB, 0x90, 0xAE, 0x50, 0x3E, 0x4F, 0x33, 0x90,
+    0x00, 0x2B, 0x91, 0xD0, 0x02, 0xF4, 0x78, 0x82, 0x0A, 0xA9, 0x98, 0x23, 0x61, 0x1B, 0x9A, 0x44,
+];
+
+const FIRST: [u8; 32] = [
+    0x06, 0x11, 0x76, 0xA2, 0x70, 0x73, 0x30, 0xA8, 0xCE, 0x6C, 0xC3, 0xC8, 0x6C, 0xE3, 0xA5, 0x17,
+    0x8B, 0xF1, 0x53, 0x1B, 0x94, 0x9E, 0x86, 0xD8, 0x34, 0xD3, 0xF7, 0x7E, 0x3A, 0xB9, 0x0A, 0x26,
+];
+
+const SECOND: [u8; 32] = [
+    0xE1, 0x8E, 0xC7, 0x28, 0x73, 0x23, 0x42, 0x10, 0xC2, 0x02, 0xEB, 0x6A, 0x1C, 0xF0, 0x5F, 0x73,
+    0xEC, 0x7E, 0x08, 0x85, 0x2A, 0x4D, 0x11, 0xCA, 0xE3, 0x88, 0x9D, 0x65, 0x18, 0x13, 0xDF, 0x7B,
+];
+
+fn begins_with(alloc: Global, header: [u8; 32]) -> Result<(), Fail> {
+    let digest = begun(1, &schema(alloc)?);
+    if digest == header {
+        return Ok(());
+    }
+    Err(Fail::from(digest))
+}
+
+// The frame at this place extends the one digest to the other, and ends there.
+fn extends(
+    alloc: Global,
+    digest: [u8; 32],
+    at: usize,
+    wanted: ([u8; 32], usize),
+) -> Result<(), Fail> {
+    if at >= LOG.len() {
+        return Err(Fail::from("no place of the log"));
+    }
+    let found = next(alloc, digest, &LOG, at)?;
+    if found == wanted {
+        return Ok(());
+    }
+    Err(Fail::from(found))
+}
+
 #[test]
 fn each_entry_extends_the_digest(rt: HostRuntime) -> Result<(), Fail> {
-    let alloc = rt.alloc();
-    let digest = begun(1, &schema(alloc)?);
-    let header = [
-        0x01, 0x0C, 0x15, 0x71, 0xC0, 0x44, 0x2A, 0xA9, 0xEB, 0x90, 0xAE, 0x50, 0x3E, 0x4F, 0x33,
-        0x90, 0x00, 0x2B, 0x91, 0xD0, 0x02, 0xF4, 0x78, 0x82, 0x0A, 0xA9, 0x98, 0x23, 0x61, 0x1B,
-        0x9A, 0x44,
-    ];
-    assert_eq!(rt; digest, header);
-    let (digest, end) = next(alloc, digest, &LOG, 30).ok().ok_or("a frame")?;
-    let first = [
-        0x06, 0x11, 0x76, 0xA2, 0x70, 0x73, 0x30, 0xA8, 0xCE, 0x6C, 0xC3, 0xC8, 0x6C, 0xE3, 0xA5,
-        0x17, 0x8B, 0xF1, 0x53, 0x1B, 0x94, 0x9E, 0x86, 0xD8, 0x34, 0xD3, 0xF7, 0x7E, 0x3A, 0xB9,
-        0x0A, 0x26,
-    ];
-    assert_eq!(rt; (digest, end), (first, 72));
-    let (digest, end) = next(alloc, digest, &LOG, 72).ok().ok_or("a frame")?;
-    let second = [
-        0xE1, 0x8E, 0xC7, 0x28, 0x73, 0x23, 0x42, 0x10, 0xC2, 0x02, 0xEB, 0x6A, 0x1C, 0xF0, 0x5F,
-        0x73, 0xEC, 0x7E, 0x08, 0x85, 0x2A, 0x4D, 0x11, 0xCA, 0xE3, 0x88, 0x9D, 0x65, 0x18, 0x13,
-        0xDF, 0x7B,
-    ];
-    assert_eq!(rt; (digest, end), (second, 155));
-    Ok(())
+    begins_with(rt.alloc(), HEADER)?;
+    extends(rt.alloc(), HEADER, 30, (FIRST, 72))?;
+    extends(rt.alloc(), FIRST, 72, (SECOND, 155))
+}
+
+fn second_entry(alloc: Global) -> Result<Entry, Fail> {
+    match read_frame(alloc, &LOG, 72) {
+        Ok(frame) => Ok(frame.entry),
+        Err(error) => Err(Fail::from(error)),
+    }
+}
+
+fn is_the_put(alloc: Global, op: &Op) -> Result<(), Fail> {
+    let all = HandleRange {
+        low: i64::MIN,
+        high: None,
+    };
+    match change_of(1, all, op) {
+        Ok(
+            Some(
+                FamilyOp::Write {
+                    handle: 5,
+                    ts: 10,
+                    start: 7,
+                    gone: false,
+                    short: Some(bytes),
+                },
+            ),
+        ) => is_the_row(alloc, bytes.as_slice()),
+        _ => Err(Fail::from("no put")),
+    }
+}
+
+fn is_the_row(alloc: Global, bytes: &[u8]) -> Result<(), Fail> {
+    let schema = schema(alloc)?;
+    if bytes == &LOG[140..155] && check_row(bytes, &schema) == Ok(()) {
+        return Ok(());
+    }
+    Err(Fail::from("another row"))
+}
+
+fn is_outside(op: &Op) -> Result<(), Fail> {
+    let range = HandleRange { low: 6, high: None };
+    if change_of(1, range, op).err() == Some(ChangeError::BadKey) {
+        return Ok(());
+    }
+    Err(Fail::from("inside"))
 }
 
 // The put of a row's short value, and the row.
 #[test]
 fn the_put_of_a_row_is_told(rt: HostRuntime) -> Result<(), Fail> {
-    let alloc = rt.alloc();
-    let frame = read_frame(alloc, &LOG, 72).ok().ok_or("a frame")?;
-    let Body::Write { ops } = frame.entry.body else {
-        return Err("a Write".into());
+    let entry = second_entry(rt.alloc())?;
+    let Body::Write { ops } = entry.body else {
+        return Err(Fail::from("no Write"));
     };
-    let all = HandleRange {
-        low: i64::MIN,
-        high: None,
-    };
-    if ops.len() == 1 {
-        let change = change_of(1, all, ops.at(0)).ok().ok_or("a change")?;
-        let Some(
-            FamilyOp::Write {
-                handle: 5,
-                ts: 10,
-                start: 7,
-                gone: false,
-                short: Some(bytes),
-            },
-        ) = change
-        else {
-            return Err("a put".into());
-        };
-        assert_eq!(rt; bytes.as_slice(), &LOG[140..155]);
-        assert_eq!(rt; check_row(bytes.as_slice(), &schema(alloc)?), Ok(()));
-        let range = HandleRange { low: 6, high: None };
-        assert_eq!(rt;
-            change_of(1, range, ops.at(0)).err(),
-            Some(ChangeError::BadKey)
-        );
+    if ops.len() != 1 {
+        return Err(Fail::from("no single op"));
     }
-    Ok(())
+    is_the_put(rt.alloc(), ops.at(0))?;
+    is_outside(ops.at(0))
 }

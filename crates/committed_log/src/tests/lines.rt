@@ -2,6 +2,7 @@
 ghost use Rattle.std.specs.Prelude.{◌<◌, length, IfOk};
 ghost use Rattle.committed_log.specs.Lawful.{IsWritable};
 
+use super::ops::{Record, bytes_of};
 use super::*;
 use crate::{Logs, Unlawful};
 use kv_codec::{encode_key, put_ts};
@@ -12,12 +13,12 @@ use std::alloc::AllocError;
 #[derive(Clone, Copy)]
 pub enum Change {
     // A record of the write family, with its timestamp.
-    Put(i64, u64, &'static [u8]),
+    Put(i64, u64, Record),
     // A value of the default family, with its start.
-    Value(i64, u64, &'static [u8]),
+    Value(i64, u64, Record),
     // A value of the default family is taken out.
     Drop(i64, u64),
-    Lock(i64, &'static [u8]),
+    Lock(i64, Record),
     // A put or a delete whose key lacks its last bytes.
     PutCut(i64, usize),
     DropCut(i64, usize),
@@ -63,19 +64,17 @@ fn add_range(low: i64, high: Option<i64>, into: &mut Vec<u8>) -> Result<(), Allo
     }
 }
 
-fn key_of(
-    alloc: Global,
-    table: i64,
-    handle: i64,
-    ts: Option<u64>,
-    lost: usize,
-) -> Result<Vec<u8>, AllocError> {
+// A key's table, handle and timestamp, and how many of its last bytes it lacks.
+#[derive(Clone, Copy)]
+struct Key(i64, i64, Option<u64>, usize);
+
+fn key_of(alloc: Global, key: Key) -> Result<Vec<u8>, AllocError> {
     let mut bytes = Vec::new(alloc);
-    encode_key(table, handle, &mut bytes)?;
-    if let Some(ts) = ts {
+    encode_key(key.0, key.1, &mut bytes)?;
+    if let Some(ts) = key.2 {
         put_ts(ts, &mut bytes)?;
     }
-    let len = bytes.len().saturating_sub(lost);
+    let len = bytes.len().saturating_sub(key.3);
     bytes.truncate(len);
     Ok(bytes)
 }
@@ -95,33 +94,46 @@ fn add_value(value: &[u8], into: &mut Vec<u8>) -> Result<(), Fail> {
     Ok(())
 }
 
+fn add_put(
+    alloc: Global,
+    family: u8,
+    key: Key,
+    value: &[u8],
+    into: &mut Vec<u8>,
+) -> Result<(), Fail> {
+    add_key(1, family, key_of(alloc, key)?, into)?;
+    add_value(value, into)
+}
+
+fn add_delete(alloc: Global, family: u8, key: Key, into: &mut Vec<u8>) -> Result<(), Fail> {
+    add_key(2, family, key_of(alloc, key)?, into)
+}
+
+// A key of table 1 with a timestamp.
+fn versioned(handle: i64, ts: u64) -> Key {
+    Key(1, handle, Some(ts), 0)
+}
+
 fn add_change(alloc: Global, change: Change, into: &mut Vec<u8>) -> Result<(), Fail> {
     match change {
-        Change::Put(handle, ts, value) => {
-            add_key(1, 3, key_of(alloc, 1, handle, Some(ts), 0)?, into)?;
-            add_value(value, into)
+        Change::Put(handle, ts, record) => {
+            add_put(alloc, 3, versioned(handle, ts), bytes_of(record), into)
         }
-        Change::Value(handle, start, value) => {
-            add_key(1, 1, key_of(alloc, 1, handle, Some(start), 0)?, into)?;
-            add_value(value, into)
+        Change::Value(handle, start, row) => {
+            add_put(alloc, 1, versioned(handle, start), bytes_of(row), into)
         }
-        Change::Drop(handle, start) => {
-            add_key(2, 1, key_of(alloc, 1, handle, Some(start), 0)?, into)
-        }
-        Change::Lock(handle, value) => {
-            add_key(1, 2, key_of(alloc, 1, handle, None, 0)?, into)?;
-            add_value(value, into)
+        Change::Drop(handle, start) => add_delete(alloc, 1, versioned(handle, start), into),
+        Change::Lock(handle, record) => {
+            add_put(alloc, 2, Key(1, handle, None, 0), bytes_of(record), into)
         }
         Change::PutCut(handle, lost) => {
-            add_key(1, 3, key_of(alloc, 1, handle, Some(10), lost)?, into)?;
-            add_value(&[], into)
+            add_put(alloc, 3, Key(1, handle, Some(10), lost), &[], into)
         }
         Change::DropCut(handle, lost) => {
-            add_key(2, 1, key_of(alloc, 1, handle, Some(10), lost)?, into)
+            add_delete(alloc, 1, Key(1, handle, Some(10), lost), into)
         }
         Change::Elsewhere(table, handle) => {
-            add_key(1, 3, key_of(alloc, table, handle, Some(10), 0)?, into)?;
-            add_value(&[], into)
+            add_put(alloc, 3, Key(table, handle, Some(10), 0), &[], into)
         }
     }
 }
@@ -135,49 +147,71 @@ fn add_changes(alloc: Global, changes: &[Change], into: &mut Vec<u8>) -> Result<
     Ok(())
 }
 
-fn add_act(alloc: Global, act: Act, into: &mut Vec<u8>) -> Result<(), Fail> {
-    match act {
-        Act::Open(low, high) => {
-            add(&[1], into)?;
-            add_range(low, high, into)?;
-        }
-        Act::Write(changes) => {
-            add(&[2], into)?;
-            add_changes(alloc, changes, into)?;
-        }
-        Act::Split(at, child) => {
-            add(&[3], into)?;
-            add_handle(at, into)?;
-            add(&child.to_be_bytes(), into)?;
-        }
-        Act::Prepare(target) => {
-            add(&[4], into)?;
-            add(&target.to_be_bytes(), into)?;
-        }
-        Act::Commit(source) => {
-            add(&[5], into)?;
-            add(&source.to_be_bytes(), into)?;
-        }
-        Act::Remove => add(&[6], into)?,
-        Act::Install(low, high, changes) => {
-            add(&[7], into)?;
-            add_range(low, high, into)?;
-            add_changes(alloc, changes, into)?;
-        }
-        Act::Empty => add(&[8], into)?,
-    }
+fn add_number(code: u8, number: u32, into: &mut Vec<u8>) -> Result<(), Fail> {
+    add(&[code], into)?;
+    add(&number.to_be_bytes(), into)?;
     Ok(())
 }
 
-fn frame_bytes(alloc: Global, line: Line) -> Result<Vec<u8>, Fail> {
+fn add_open(code: u8, low: i64, high: Option<i64>, into: &mut Vec<u8>) -> Result<(), Fail> {
+    add(&[code], into)?;
+    add_range(low, high, into)?;
+    Ok(())
+}
+
+fn add_write(alloc: Global, changes: &[Change], into: &mut Vec<u8>) -> Result<(), Fail> {
+    add(&[2], into)?;
+    add_changes(alloc, changes, into)
+}
+
+fn add_split(at: i64, child: u32, into: &mut Vec<u8>) -> Result<(), Fail> {
+    add(&[3], into)?;
+    add_handle(at, into)?;
+    add(&child.to_be_bytes(), into)?;
+    Ok(())
+}
+
+fn add_code(code: u8, into: &mut Vec<u8>) -> Result<(), Fail> {
+    add(&[code], into)?;
+    Ok(())
+}
+
+fn add_install(
+    alloc: Global,
+    low: i64,
+    high: Option<i64>,
+    changes: &[Change],
+    into: &mut Vec<u8>,
+) -> Result<(), Fail> {
+    add_open(7, low, high, into)?;
+    add_changes(alloc, changes, into)
+}
+
+fn add_act(alloc: Global, act: Act, into: &mut Vec<u8>) -> Result<(), Fail> {
+    match act {
+        Act::Open(low, high) => add_open(1, low, high, into),
+        Act::Write(changes) => add_write(alloc, changes, into),
+        Act::Split(at, child) => add_split(at, child, into),
+        Act::Prepare(target) => add_number(4, target, into),
+        Act::Commit(source) => add_number(5, source, into),
+        Act::Remove => add_code(6, into),
+        Act::Install(low, high, changes) => add_install(alloc, low, high, changes, into),
+        Act::Empty => add_code(8, into),
+    }
+}
+
+fn payload_of(alloc: Global, line: Line) -> Result<Vec<u8>, Fail> {
     let mut payload = Vec::new(alloc);
     add(&line.0.to_be_bytes(), &mut payload)?;
     add(&line.1.to_be_bytes(), &mut payload)?;
     add_act(alloc, line.2, &mut payload)?;
-    let len = u32::try_from(payload.len()).ok().ok_or("a short frame")?;
+    Ok(payload)
+}
+
+fn frame_bytes(alloc: Global, line: Line) -> Result<Vec<u8>, Fail> {
+    let payload = payload_of(alloc, line)?;
     let mut bytes = Vec::new(alloc);
-    add(&len.to_be_bytes(), &mut bytes)?;
-    add(&payload, &mut bytes)?;
+    add_value(payload.as_slice(), &mut bytes)?;
     Ok(bytes)
 }
 
@@ -209,14 +243,18 @@ pub fn admit_line(
     }
 }
 
+fn add_line(alloc: Global, logs: &mut Logs, line: Line) -> Result<(), Fail> {
+    match admit_line(alloc, logs, line)? {
+        Ok(_) => Ok(()),
+        Err(refusal) => Err(Fail::from(refusal)),
+    }
+}
+
 // The log of table 1 with these lines, all of which are lawful.
 pub fn log_of_lines(alloc: Global, lines: &[Line]) -> Result<Logs, Fail> {
     let mut logs = Logs::empty(alloc, 1, schema(alloc)?);
     for line in lines {
-        let admitted = admit_line(alloc, &mut logs, *line)?;
-        if admitted.is_err() {
-            return Err("a lawful line".into());
-        }
+        add_line(alloc, &mut logs, *line)?;
     }
     Ok(logs)
 }

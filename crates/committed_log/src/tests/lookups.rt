@@ -1,7 +1,8 @@
 // What the log answers of its entries.
 use super::lines::{Act, Change, Line, log_of_lines};
-use super::refusals::{PUT_10, PUT_20};
+use super::ops::Record;
 use super::*;
+use crate::Logs;
 
 // Two regions of which the first is merged into the second, which is then split.
 const MOVES: [Line; 8] = [
@@ -42,71 +43,100 @@ const NEXTS: [Next; 20] = [
     Next("an empty log", 0, 1, 5, None),
 ];
 
+fn next_of(alloc: Global, lines: &[Line], region: u32, index: u64) -> Result<Option<u64>, Fail> {
+    let logs = log_of_lines(alloc, lines)?;
+    Ok(logs.next_of(region, index))
+}
+
+fn is_next(alloc: Global, case: Next) -> Result<(), Fail> {
+    let lines = MOVES.get(..case.1).ok_or("lines")?;
+    let found = next_of(alloc, lines, case.2, case.3)?;
+    if found == case.4 {
+        return Ok(());
+    }
+    Err(Fail::from((case.0, found)))
+}
+
 #[test]
 fn the_next_position_of_each_kind_of_region(rt: HostRuntime) -> Result<(), Fail> {
-    let alloc = rt.alloc();
     for case in NEXTS {
-        let lines = MOVES.get(..case.1).ok_or("lines")?;
-        let logs = log_of_lines(alloc, lines)?;
-        assert_eq!(rt; logs.next_of(case.2, case.3), case.4, "{}", case.0);
+        is_next(rt.alloc(), case)?;
     }
     Ok(())
 }
 
 const SAID: [Line; 5] = [
     Line(1, 5, Act::Open(i64::MIN, Some(100))),
-    Line(1, 6, Act::Write(&[Change::Put(5, 10, &PUT_10)])),
+    Line(1, 6, Act::Write(&[Change::Put(5, 10, Record::Put10)])),
     Line(
         1,
         7,
         Act::Write(&[
-            Change::Put(5, 10, &PUT_10),
-            Change::Put(6, 10, &PUT_10),
-            Change::Put(5, 20, &PUT_20),
-            Change::Put(6, 10, &PUT_10),
-            Change::Put(5, 20, &PUT_20),
+            Change::Put(5, 10, Record::Put10),
+            Change::Put(6, 10, Record::Put10),
+            Change::Put(5, 20, Record::Put20),
+            Change::Put(6, 10, Record::Put10),
+            Change::Put(5, 20, Record::Put20),
         ]),
     ),
-    Line(1, 8, Act::Write(&[Change::Put(5, 20, &PUT_20)])),
+    Line(1, 8, Act::Write(&[Change::Put(5, 20, Record::Put20)])),
     Line(
         2,
         5,
         Act::Install(
             100,
             None,
-            &[Change::Put(100, 10, &PUT_10), Change::Put(100, 10, &PUT_10)],
+            &[
+                Change::Put(100, 10, Record::Put10),
+                Change::Put(100, 10, Record::Put10),
+            ],
         ),
     ),
 ];
 
-const REPEATS: [(u64, u32, bool); 12] = [
-    (0, 0, false),
-    (1, 0, false),
-    (2, 0, true),
-    (2, 1, false),
-    (2, 2, false),
-    (2, 3, true),
-    (2, 4, true),
-    (2, 5, false),
-    (3, 0, true),
-    (4, 0, false),
-    (4, 1, true),
-    (4, 2, false),
+// The position, the op, and whether it says again what stands.
+#[derive(Clone, Copy, Debug)]
+struct Repeat(u64, u32, bool);
+
+const REPEATS: [Repeat; 12] = [
+    Repeat(0, 0, false),
+    Repeat(1, 0, false),
+    Repeat(2, 0, true),
+    Repeat(2, 1, false),
+    Repeat(2, 2, false),
+    Repeat(2, 3, true),
+    Repeat(2, 4, true),
+    Repeat(2, 5, false),
+    Repeat(3, 0, true),
+    Repeat(4, 0, false),
+    Repeat(4, 1, true),
+    Repeat(4, 2, false),
 ];
+
+fn is_repeat(logs: &Logs, case: Repeat) -> Result<(), Fail> {
+    if case.0 < logs.len() && logs.repeats(case.0, case.1) == case.2 {
+        return Ok(());
+    }
+    Err(Fail::from(case))
+}
+
+fn are_repeats(logs: &Logs, cases: &[Repeat]) -> Result<(), Fail> {
+    for case in cases {
+        is_repeat(logs, *case)?;
+    }
+    Ok(())
+}
+
+fn has_entries(logs: &Logs, count: u64) -> Result<(), Fail> {
+    if logs.len() == count {
+        return Ok(());
+    }
+    Err(Fail::from(logs.len()))
+}
 
 #[test]
 fn the_ops_that_say_again_what_stands(rt: HostRuntime) -> Result<(), Fail> {
-    let alloc = rt.alloc();
-    let logs = log_of_lines(alloc, &SAID)?;
-    for (position, op, repeats) in REPEATS {
-        if position < logs.len() {
-            assert_eq!(rt;
-                logs.repeats(position, op),
-                repeats,
-                "op {op} of {position}"
-            );
-        }
-    }
-    assert_eq!(rt; logs.len(), 5);
-    Ok(())
+    let logs = log_of_lines(rt.alloc(), &SAID)?;
+    are_repeats(&logs, &REPEATS)?;
+    has_entries(&logs, 5)
 }

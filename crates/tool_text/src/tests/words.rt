@@ -4,50 +4,62 @@ use flash_io::{Word, WordList};
 use flash_list::Items;
 use std::test::*;
 
-fn read(rt: &HostRuntime, texts: &[&str]) -> Result<Option<Words>, Fail> {
+fn list_of(rt: &HostRuntime, texts: &[&str]) -> Result<WordList, Fail> {
     let mut words: WordList = Items::new(rt.alloc());
     for text in texts {
         let word = Word::from_slice(rt.alloc(), text.as_bytes())?;
         words.push(word).ok().ok_or("memory")?;
     }
-    match read_words(&words) {
-        Ok(command) => Ok(Some(command)),
-        Err(Usage) => Ok(None),
+    Ok(words)
+}
+
+fn reads(rt: &HostRuntime, texts: &[&str], wanted: Option<Words>) -> Result<(), Fail> {
+    let words = list_of(rt, texts)?;
+    let found = match read_words(&words) {
+        Ok(command) => Some(command),
+        Err(Usage) => None,
+    };
+    if found == wanted {
+        return Ok(());
     }
+    Err(Fail::from(words))
 }
 
 #[test]
 fn the_words_of_the_commands(rt: HostRuntime) -> Result<(), Fail> {
-    assert_eq!(rt; read(&rt, &["check"])?, Some(Words::Check));
-    assert_eq!(rt; read(&rt, &["show", "0"])?, Some(Words::Show { ts: 0 }));
-    assert_eq!(rt;
-        read(&rt, &["show", "18446744073709551615"])?,
-        Some(Words::Show { ts: u64::MAX })
-    );
-    Ok(())
+    reads(&rt, &["check"], Some(Words::Check))?;
+    reads(&rt, &["show", "0"], Some(Words::Show { ts: 0 }))?;
+    let most = Words::Show { ts: u64::MAX };
+    reads(&rt, &["show", "18446744073709551615"], Some(most))
 }
+
+const OTHERS: [&[&str]; 20] = [
+    &[],
+    &["show", "007"],
+    &["show", ""],
+    &["show", "+1"],
+    &["show", "-1"],
+    &["show", " 1"],
+    &["show", "1 "],
+    &["show", "0x1"],
+    &["show", "18446744073709551616"],
+    &["show"],
+    &["Check"],
+    &["check "],
+    &[""],
+    &["--help"],
+    &["replay"],
+    &["gen"],
+    &["check", "check"],
+    &["check", "1"],
+    &["show", "1", "1"],
+    &["replay", "--settle"],
+];
 
 #[test]
 fn other_words(rt: HostRuntime) -> Result<(), Fail> {
-    assert_eq!(rt; read(&rt, &[])?, None);
-    for number in [
-        "007",
-        "",
-        "+1",
-        "-1",
-        " 1",
-        "1 ",
-        "0x1",
-        "18446744073709551616",
-    ] {
-        assert_eq!(rt; read(&rt, &["show", number])?, None);
+    for texts in OTHERS {
+        reads(&rt, texts, None)?;
     }
-    for word in ["show", "Check", "check ", "", "--help", "replay", "gen"] {
-        assert_eq!(rt; read(&rt, &[word])?, None);
-    }
-    assert_eq!(rt; read(&rt, &["check", "check"])?, None);
-    assert_eq!(rt; read(&rt, &["check", "1"])?, None);
-    assert_eq!(rt; read(&rt, &["show", "1", "1"])?, None);
-    assert_eq!(rt; read(&rt, &["replay", "--settle"])?, None);
     Ok(())
 }
