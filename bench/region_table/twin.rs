@@ -259,8 +259,7 @@ impl Table {
                                 let len = op.value[at + 1] as usize;
                                 cells_of(&op.value[at + 2..at + 2 + len], &schema)
                             } else {
-                                let value = region.values.remove(&(handle, start)).expect("a value");
-                                cells_of(&value, &schema)
+                                cells_of(&region.values[&(handle, start)], &schema)
                             };
                             versions.push(Version { handle, ts, gone: false, cells });
                         }

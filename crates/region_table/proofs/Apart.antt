@@ -18,7 +18,7 @@ use Rattle.good_replica.proofs.Facts.{and_true}
 use Rattle.good_replica.proofs.Reading.{owner_front}
 use Rattle.region_state.specs.State.{State}
 use Rattle.region_table.specs.Table.{Table, IsTableAt, kept_in, state_there, state_kept}
-use Rattle.region_table.specs.declared.kept.Kept.TheVariants as kept
+use Rattle.region_file.specs.declared.entry.Entry.TheVariants as kept
 use Rattle.region_table.proofs.Sets.{state_is}
 
 -- two ranges without a handle in common have no least one
