@@ -17,3 +17,4 @@ pub mod Empty
 pub mod Alike
 pub mod Agreeing
 pub mod Apart
+pub mod TableAgain

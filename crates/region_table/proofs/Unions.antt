@@ -50,7 +50,8 @@ module _ {K X : Type 0} {R : K → K → Ordering} (o : IsTotalOrder R) where
   unfolding IsStrictlySortedBy
   rest_rises e es rise = rise.1
 
-  past : (q : K) (e : K × X) (es : List (K × X)) → Rise R (e ∷ es) → is_at (R q) e.0 ≡ true → look es q ≡ None
+  -- no later entry is found under the key of the first
+  pub past : (q : K) (e : K × X) (es : List (K × X)) → Rise R (e ∷ es) → is_at (R q) e.0 ≡ true → look es q ≡ None
   past q e es rise is = lookup-none (is_at (R q)) es (none_past_head (eq_by_cmp_equiv o) q e es (IsDistinct-from_sorted R (keys_of (e ∷ es)) rise) is)
 
   pub united_look : (es more : List (K × X)) → Rise R more → (q : K) → look (united R es more) q ≡ option_or (look more q) (look es q)

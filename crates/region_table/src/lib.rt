@@ -19,7 +19,9 @@ mod table;
 
 pub use effect::Effect;
 pub use fault::ApplyError;
-pub use laws::{empty_tables_agree, faults_tell_ready, tables_tell_their_set};
+pub use laws::{
+    empty_tables_agree, faults_tell_ready, tables_tell_their_set, written_tables_are_read_again,
+};
 pub use region_file::TableError;
 pub use table::{Counted, RegionTable};
 
