@@ -34,6 +34,3 @@ pub use region::{Descriptor, Region};
 pub use rows::check_row;
 pub use store::{Commit, Lock};
 pub use unlawful::{RegionState, RowFault, Unlawful};
-
-#[cfg(test)]
-mod tests;

@@ -14,6 +14,3 @@ mod status;
 mod value;
 
 pub use run::replay;
-
-#[cfg(test)]
-mod tests;

@@ -22,6 +22,3 @@ pub use reply::{Cuts, ReadReply, Rows, print_reply};
 pub use row::print_row;
 pub use script::{Action, Event, Events, PathText, Reads, Script, ScriptError, ScriptRead};
 pub use words::{Usage, Words, read_words};
-
-#[cfg(test)]
-mod tests;
