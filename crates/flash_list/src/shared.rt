@@ -1,5 +1,5 @@
 // Bytes with several owners.
-ghost use Rattle.std.specs.Prelude.{◌≡◌, ◌≤◌, [], length, take, drop, IfOk, OnOk, OnErr};
+ghost use Rattle.std.specs.Prelude.{◌≡◌, ◌≤◌, [], length, take, drop, slice_range, IfOk, OnOk, OnErr};
 
 use bytes::Bytes as Shared;
 use std::alloc::{AllocError, Global};
@@ -38,6 +38,14 @@ impl SharedBytes {
         Ok(SharedBytes { bytes })
     }
 
+    /// The bytes of a list, which is taken over and not copied.
+    pub fn from_vec(bytes: Vec<u8>) -> Result<SharedBytes, AllocError>
+        ensures { IfOk result (λ it. it ≡ bytes.items) }
+    {
+        let bytes = Shared::from_vec(bytes)?;
+        Ok(SharedBytes { bytes })
+    }
+
     /// The number of bytes.
     pub fn len(&self) -> usize
         ensures { result ≡ length self.now }
@@ -57,6 +65,17 @@ impl SharedBytes {
         ensures { IfOk result (λ it. it ≡ self.now) }
     {
         let bytes = self.bytes.clone()?;
+        Ok(SharedBytes { bytes })
+    }
+
+    /// The bytes from place `from` up to but without place `to`, of which it is one more owner. It
+    /// copies none.
+    pub fn part(&self, from: usize, to: usize) -> Result<SharedBytes, AllocError>
+        requires order { from ≤ to }
+        requires within { to ≤ length self.now }
+        ensures { IfOk result (λ part. part ≡ slice_range self.now from to) }
+    {
+        let bytes = self.bytes.slice(from..to)?;
         Ok(SharedBytes { bytes })
     }
 

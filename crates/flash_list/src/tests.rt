@@ -37,6 +37,17 @@ fn shared_bytes_are_cut_and_shared(rt: HostRuntime) {
 }
 
 #[test]
+fn a_list_is_taken_over_and_its_parts_share_it(rt: HostRuntime) {
+    let list = Vec::from_slice(rt.alloc(), b"abcdef").expect(&rt, "room");
+    let whole = SharedBytes::from_vec(list).expect(&rt, "room");
+    if whole.len() == 6 {
+        let middle = whole.part(1, 4).expect(&rt, "room");
+        drop(whole);
+        assert_eq!(rt; middle.as_slice(), b"bcd".as_slice());
+    }
+}
+
+#[test]
 fn fields_are_big_endian(rt: HostRuntime) {
     let bytes = [1u8, 2, 3, 4, 5, 6, 7, 8, 9];
     assert!(rt; matches!(u8_or((), &bytes), Ok((1, _))));
