@@ -19,6 +19,3 @@ pub use list::{ColumnList, ListKind, Uints};
 pub use read::decode;
 pub use texts::Texts;
 pub use write::encode;
-
-#[cfg(test)]
-mod tests;

@@ -24,6 +24,3 @@ pub use view::{DeltaView, SegmentView};
 /// Memory ran out.
 #[derive(Clone, Copy, Debug, PartialEq, Eq)]
 pub struct Memory;
-
-#[cfg(test)]
-mod tests;

@@ -13,6 +13,3 @@ pub use rows::shown;
 pub use scan_laws::scans_are_the_read_rule;
 pub use scans::{RowScan, scan};
 pub use snapshot::Snapshot;
-
-#[cfg(test)]
-mod tests;

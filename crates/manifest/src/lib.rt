@@ -19,6 +19,3 @@ pub use creating::create;
 pub use fault::{CommitError, ManifestError};
 pub use reading::open;
 pub use store::Manifest;
-
-#[cfg(test)]
-mod tests;

@@ -16,6 +16,3 @@ pub use laws::packs_are_read_again;
 pub use lists::here;
 pub use read::{ended, read_pack};
 pub use write::write_pack;
-
-#[cfg(test)]
-mod tests;

@@ -12,6 +12,3 @@ pub use row::{Field, RowError};
 pub use value::{int, uint};
 pub use view::RowView;
 pub use write::{Memory, RowWriter, reads_back};
-
-#[cfg(test)]
-mod tests;

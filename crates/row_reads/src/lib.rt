@@ -11,6 +11,3 @@ pub use filter::kept;
 pub use refusal::refused;
 pub use reply::{Reply, answer};
 pub use shown::rows;
-
-#[cfg(test)]
-mod tests;

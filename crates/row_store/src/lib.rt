@@ -34,6 +34,3 @@ pub use reads::{first_lock, shown};
 pub use regions::{acts_on, index_of, range_of, region};
 pub use sorted::{drop_entry, entry_at, put_entry};
 pub use store::Store;
-
-#[cfg(test)]
-mod tests;

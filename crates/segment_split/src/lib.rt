@@ -7,6 +7,3 @@ mod middle;
 
 pub use halves::{build, halves_part};
 pub use middle::choose;
-
-#[cfg(test)]
-mod tests;

@@ -19,6 +19,3 @@ pub use pack::Pack;
 pub use read::{open, read_pack};
 pub use versions::{is_before, pack_of, rise};
 pub use write::build;
-
-#[cfg(test)]
-mod tests;
