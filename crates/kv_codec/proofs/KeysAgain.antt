@@ -1,12 +1,11 @@
 -- Keys that are written are read again.
-use Rattle.std.proofs.Common.{◌≡◌, ℕ, ℤ, pos, negsuc, zero, suc, ◌+◌, ◌-◌, ◌^◌, ◌<◌, ◌≤◌, Bool, true, false, cond, ltb, eqb, List, [], ◌∷◌, ◌++◌, length, take, drop, Option, Some, None, Result, Ok, Err, refl, sym, ap, ◌∙◌, arith, eq-eqb, length-append}
+use Rattle.std.proofs.Common.{◌≡◌, ℕ, ℤ, pos, negsuc, ◌+◌, ◌-◌, ◌^◌, ◌<◌, true, false, ltb, eqb, List, [], ◌∷◌, ◌++◌, length, take, drop, Some, Ok, refl, ap, ◌∙◌, arith, eq-eqb, length-append}
 use Rattle.std.specs.Prelude.{FitsSigned}
 use Rattle.std.specs.Int.{w64, from_be_bytes, to_be_bytes}
 use Rattle.std.proofs.lemmas.Bool.{le-ltb, lt-ltb}
 use Rattle.std.proofs.lemmas.Nat.{from_be_bytes-to_be_bytes_8}
 use Rattle.std.proofs.lemmas.List.{take_at}
 use Rattle.std.proofs.Math.Seq.{drop-append_seam}
-use Rattle.flash_list.specs.Steps.{◌>>=◌}
 use Rattle.kv_codec.specs.Keys.{text_at, handle_of, record_at, parts_at, flipped, unflipped, key_by_places}
 use Rattle.kv_codec.specs.Spelling as S
 
@@ -22,7 +21,7 @@ encoded_again at (a ∷ b ∷ c ∷ d ∷ e ∷ []) = refl
 encoded_again at (a ∷ b ∷ c ∷ d ∷ e ∷ f ∷ []) = refl
 encoded_again at (a ∷ b ∷ c ∷ d ∷ e ∷ f ∷ g ∷ []) = refl
 
-handle_found : (table handle : ℤ) (number tail : List ℕ) → length number ≡ 8 → from_be_bytes w64 number ≡ flipped table → length tail ≡ 8 → unflipped (from_be_bytes w64 tail) ≡ handle
+pub handle_found : (table handle : ℤ) (number tail : List ℕ) → length number ≡ 8 → from_be_bytes w64 number ≡ flipped table → length tail ≡ 8 → unflipped (from_be_bytes w64 tail) ≡ handle
     → handle_of table (116 ∷ (number ++ (95 ∷ 114 ∷ tail))) ≡ Some handle
 unfolding handle_of
 handle_found table handle (a ∷ b ∷ c ∷ d ∷ e ∷ f ∷ g ∷ h ∷ []) tail size same len is =

@@ -1,5 +1,5 @@
 -- Records of the write family and of the lock family.
-use Rattle.std.specs.Prelude.{ℕ, zero, suc, ◌+◌, ◌-◌, ◌*◌, List, [], ◌∷◌, ◌/◌, ◌%◌, length, take, drop, nat_lt, ◌==◌, if◌then◌else◌, Option, Some, None, Result, Ok, Err}
+use Rattle.std.specs.Prelude.{◌≡◌, ℕ, zero, suc, ◌+◌, ◌-◌, ◌*◌, List, [], ◌∷◌, ◌/◌, ◌%◌, length, take, drop, nat_lt, ◌==◌, if◌then◌else◌, Option, Some, None, Result, Ok, Err}
 use Rattle.kv_codec.specs.declared.records.RecordError.{RecordError}
 use Rattle.kv_codec.specs.declared.records.RecordError.TheVariants.{Short, Kind, Number}
 use Rattle.kv_codec.specs.declared.records.LockKind.{LockKind}
@@ -82,3 +82,9 @@ lock_at bytes = do
   start ← number_in (length bytes) primary.1
   ttl ← ttl_at (length bytes) start.1
   Ok (record { kind = kind.0; primary = primary.0; start = start.0; ttl = ttl })
+
+-- ---- the program's steps
+
+-- wherever these bytes stand, they are a number and what stands behind it
+abbrev pub IsNumber : ℕ → List ℕ → ℕ → List ℕ → Type 0
+IsNumber more bytes n rest = (at : ℕ) → number_at more at bytes ≡ Ok (n, rest)

@@ -1,4 +1,5 @@
-ghost use Rattle.std.specs.Prelude.{◌≡◌, ◌<◌, ◌+◌, ◌^◌, ◌≤◌, length, IfSome};
+ghost use Rattle.std.specs.Prelude.{◌≡◌, ◌<◌, ◌+◌, ◌^◌, ◌≤◌, length, take, drop, IfSome, Ok, Some};
+ghost use Rattle.std.specs.Int.{w64, from_be_bytes};
 ghost use Rattle.flash_list.specs.Steps.{seen};
 ghost use Rattle.kv_codec.specs.Keys.{last_group, text_at, flipped, unflipped, record_at, parts_at, handle_in, handle_of, first_set};
 
@@ -22,6 +23,19 @@ const SIGN: u64 = 1 << 63;
 const FULL: u8 = 0xFF;
 
 const EMPTY: u8 = 0xF7;
+
+// The marker of a record key's last group, which has five pads.
+const LAST: u8 = 0xFA;
+
+// `t`, above seven bytes of a table.
+const TEXT: u64 = 0x74 << 56;
+
+// `_r`, below the last byte of a table.
+const LINE: u64 = 0x5F72;
+
+const FIVE_BYTES: u64 = 1 << 40;
+
+const THREE_BYTES: u64 = 1 << 24;
 
 // A number with the sign bit flipped.
 pub fn flip(number: i64) -> u64
@@ -56,8 +70,47 @@ fn unflip(raw: u64) -> i64
 pub fn record_of(key: &[u8], table: i64) -> Result<Option<i64>, KeyError>
     ensures { result ≡ record_at table key.now }
 {
+    if let Some(handle) = handle_by_groups(key, table) {
+        return Ok(Some(handle));
+    }
     check_groups(key)?;
     Ok(handle_in(key, table))
+}
+
+// The handle of a record key of the table, by its three groups, each read as one number: `t` and
+// seven bytes of the table; its last byte, `_r` and five bytes of the handle; three of these and the
+// pads. None says nothing of the key.
+fn handle_by_groups(key: &[u8], table: i64) -> Option<i64>
+    ensures { IfSome result (λ handle. record_at table key.now ≡ Ok (Some handle)) }
+{
+    if key.len() != 27 {
+        return None;
+    }
+    if key[8] != FULL || key[17] != FULL || key[26] != LAST {
+        return None;
+    }
+    let table = flip(table);
+    let first = group_at(key, 0);
+    let second = group_at(key, 9);
+    let third = group_at(key, 18);
+    if first != TEXT + table / 256 {
+        return None;
+    }
+    if second / FIVE_BYTES != (table % 256) * (1 << 16) + LINE {
+        return None;
+    }
+    if third % FIVE_BYTES != 0 {
+        return None;
+    }
+    Some(unflip(second % FIVE_BYTES * THREE_BYTES + third / FIVE_BYTES))
+}
+
+// The bytes of a group as a number.
+fn group_at(key: &[u8], at: usize) -> u64
+    requires { at + 8 ≤ length key.now }
+    ensures { result ≡ from_be_bytes w64 (take 8 (drop at key.now)) }
+{
+    BigEndian::read_u64(&key[at..at + 8])
 }
 
 // Tells where a key's groups are wrong.
@@ -149,7 +202,7 @@ fn handle_in(key: &[u8], table: i64) -> Option<i64>
     else {
         return None;
     };
-    if *marker != 0xFA {
+    if *marker != LAST {
         return None;
     }
     let text = [

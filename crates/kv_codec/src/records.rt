@@ -1,7 +1,7 @@
-ghost use Rattle.std.specs.Prelude.{◌≡◌, ◌<◌, ◌+◌, ◌*◌, ◌^◌, ◌≤◌, length, IfOk};
+ghost use Rattle.std.specs.Prelude.{◌≡◌, ◌<◌, ◌+◌, ◌*◌, ◌^◌, ◌≤◌, length, IfOk, IfSome};
 ghost use Rattle.std.specs.Option.{option_map};
 ghost use Rattle.flash_list.specs.Steps.{seen};
-ghost use Rattle.kv_codec.specs.Records.{number_at, kind_at, short_at, sized_at, write_at, lock_kind_at, number_in, text_at, ttl_at, lock_at};
+ghost use Rattle.kv_codec.specs.Records.{number_at, IsNumber, kind_at, short_at, sized_at, write_at, lock_kind_at, number_in, text_at, ttl_at, lock_at};
 ghost use Rattle.kv_codec.specs.Views.{view, lock_view};
 
 /// What is wrong with a record, and where.
@@ -60,7 +60,7 @@ pub fn read_write(value: &[u8]) -> Result<WriteRec<'_>, RecordError>
     ensures { seen view result ≡ write_at value.now }
 {
     let (kind, rest) = kind_of(value)?;
-    let (start, rest) = number_of(9, 1, rest)?;
+    let (start, rest) = number_at(1, rest)?;
     let short = short_of(value.len() as u64, rest)?;
     Ok(WriteRec { kind, start, short })
 }
@@ -79,8 +79,45 @@ fn kind_of(bytes: &[u8]) -> Result<(WriteKind, &[u8]), RecordError>
     }
 }
 
+// A number at this place. Numbers are most of what a record takes to read, so this is inlined.
+#[inline(always)]
+fn number_at(at: u64, bytes: &[u8]) -> Result<(u64, &[u8]), RecordError>
+    requires { at + 9 < 2 ^ 64 }
+    ensures { seen (λ x. (x.0, x.1.now)) result ≡ number_at 9 at bytes.now }
+{
+    match number_in_nine(bytes) {
+        Some(found) => Ok(found),
+        None => number_of(9, at, bytes),
+    }
+}
+
+// A number of at most nine bytes, from its lowest bits on. None says nothing of the bytes.
+#[inline(always)]
+fn number_in_nine(bytes: &[u8]) -> Option<(u64, &[u8])>
+    ensures { IfSome result (λ x. IsNumber 9 bytes.now x.0 x.1.now) }
+{
+    let mut low = 0u64;
+    let mut weight = 1u64;
+    let mut more = 9u32;
+    let mut rest = bytes;
+    while let [byte, after @ ..] = rest {
+        if more == 0 {
+            return None;
+        }
+        if *byte < 128 {
+            return Some((low + weight * *byte as u64, after));
+        }
+        low += weight * (*byte - 128) as u64;
+        weight *= 128;
+        more -= 1;
+        rest = after;
+    }
+    None
+}
+
 // A number in at most so many bytes and one.
 #[tactic(auto, unfolding(crate::specs::Records::number_at))]
+#[cold]
 fn number_of(more: u32, at: u64, bytes: &[u8]) -> Result<(u64, &[u8]), RecordError>
     requires more { more < 10 }
     requires place { at + more < 2 ^ 64 }
@@ -163,11 +200,12 @@ fn lock_kind_of(bytes: &[u8]) -> Result<(LockKind, &[u8]), RecordError>
 }
 
 // A number in a record of this length.
+#[inline(always)]
 fn number_in(len: u64, bytes: &[u8]) -> Result<(u64, &[u8]), RecordError>
     requires { len < 2 ^ 63 }
     ensures { seen (λ x. (x.0, x.1.now)) result ≡ number_in len bytes.now }
 {
-    number_of(9, len.saturating_sub(bytes.len() as u64), bytes)
+    number_at(len.saturating_sub(bytes.len() as u64), bytes)
 }
 
 // A text behind its length, in a record of this length.
