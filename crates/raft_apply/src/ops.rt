@@ -1,28 +1,32 @@
 // The changes of an entry's ops.
-ghost use Rattle.std.specs.Prelude.{◌≡◌, ◌<◌, ◌≤◌, ◌^◌, length, IfOk, OnOk, ◌++◌, Some, slice_get};
+ghost use Rattle.std.specs.Prelude.{◌≡◌, ◌<◌, ◌≤◌, ◌^◌, length, IfOk, OnOk, [], ◌++◌, Some, slice_get};
 ghost use Rattle.std.specs.Option.{option_to_list};
 ghost use Rattle.raft_apply.specs.Entries.{change_in, change_at, changes};
 
 use crate::command::FamilyOps;
 use column_block::Memory;
-use committed_log::{ChangeError, FamilyOp, Logs, change_of};
+use committed_log::{ChangeError, Logs, change_of};
 use flash_list::Items;
 use flash_types::HandleRange;
 use log_codec::Op;
 use std::alloc::Global;
 
-// The change of an op, if it makes one.
-fn change_in(table: i64, op: &Op) -> Result<Option<FamilyOp>, Memory>
-    ensures { IfOk result (λ found. found ≡ change_in table op.now) }
+// Adds the change of an op, if it makes one.
+fn add_change(found: &mut FamilyOps, table: i64, op: &Op) -> Result<(), Memory>
+    ensures { OnOk result (found.new ≡ found.old ++ option_to_list (change_in table op.now)) }
 {
     let every_handle = HandleRange {
         low: i64::MIN,
         high: None,
     };
     match change_of(table, every_handle, op) {
-        Ok(found) => Ok(found),
-        Err(ChangeError::BadKey) => Ok(None),
-        Err(ChangeError::BadRecord) => Ok(None),
+        Ok(Some(change)) => match found.push(change) {
+            Ok(()) => Ok(()),
+            Err(_) => Err(Memory),
+        },
+        Ok(None) => Ok(()),
+        Err(ChangeError::BadKey) => Ok(()),
+        Err(ChangeError::BadRecord) => Ok(()),
         Err(ChangeError::Memory) => Err(Memory),
     }
 }
@@ -34,27 +38,31 @@ fn op_at(ops: &[Op], k: u32) -> &Op
     &ops[k as usize]
 }
 
-// The change of the op at place k of the entry at a position, unless that is a repeat.
-fn change_at(logs: &Logs, position: u64, ops: &[Op], k: u32) -> Result<Option<FamilyOp>, Memory>
+// Adds the change of the op at place k of the entry at a position, unless that is a repeat.
+fn add_at(
+    found: &mut FamilyOps,
+    logs: &Logs,
+    position: u64,
+    ops: &[Op],
+    k: u32,
+) -> Result<(), Memory>
     requires position { position < length logs.now.entries }
     requires place { k < length ops.now }
-    ensures { IfOk result (λ found. found ≡ change_at logs.now position ops.now k) }
+    ensures { OnOk result (found.new ≡ found.old ++ option_to_list (change_at logs.now position ops.now k)) }
 {
     if logs.repeats(position, k) {
-        return Ok(None);
+        return Ok(());
     }
-    change_in(logs.table(), op_at(ops, k))
+    add_change(found, logs.table(), op_at(ops, k))
 }
 
-fn add(found: &mut FamilyOps, change: Option<FamilyOp>) -> Result<(), Memory>
-    ensures { OnOk result (found.new ≡ found.old ++ option_to_list change) }
+// No changes, with room for so many.
+fn with_room(alloc: Global, count: usize) -> Result<FamilyOps, Memory>
+    ensures { IfOk result (λ found. found ≡ []) }
 {
-    match change {
-        None => Ok(()),
-        Some(change) => match found.push(change) {
-            Ok(()) => Ok(()),
-            Err(_) => Err(Memory),
-        },
+    match Vec::with_capacity(alloc, count) {
+        Ok(list) => Ok(Items::from_vec(list)),
+        Err(_) => Err(Memory),
     }
 }
 
@@ -64,10 +72,9 @@ pub fn changes(alloc: Global, logs: &Logs, position: u64, ops: &[Op]) -> Result<
     requires few { length ops.now < 2 ^ 32 }
     ensures { IfOk result (λ found. found ≡ changes logs.now position ops.now) }
 {
-    let mut found = Items::new(alloc);
+    let mut found = with_room(alloc, ops.len())?;
     for k in 0..ops.len() as u32 {
-        let change = change_at(logs, position, ops, k)?;
-        add(&mut found, change)?;
+        add_at(&mut found, logs, position, ops, k)?;
     }
     Ok(found)
 }

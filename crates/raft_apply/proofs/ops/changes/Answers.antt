@@ -7,4 +7,4 @@ use Rattle.raft_apply.proofs.ops.changes.Goals as goal
 pub loop-k-preserved : goal.loop-k-preserved
 loop-k-preserved c =
     let f = change_at c.args.logs.now c.args.position c.args.ops.now in
-    c.in_ok-add.ensures ∙ (λ i. c.loop-k.invariant i ++ option_to_list (c.in_ok-change.ensures i)) ∙ sym (one_more f c.loop-k.k)
+    c.in_ok-add_at.ensures ∙ (λ i. c.loop-k.invariant i ++ option_to_list (f c.loop-k.k)) ∙ sym (one_more f c.loop-k.k)
