@@ -4,7 +4,7 @@ use std::alloc::Global;
 use std::test::Fail;
 
 fn ints(alloc: Global, values: &[Option<i64>]) -> Result<ColumnList, Fail> {
-    let mut list = Ints::new(alloc);
+    let mut list = Ints::with_room(alloc, values.len())?;
     for value in values {
         list.push(*value).map_err(|_| "memory")?;
     }
@@ -81,6 +81,26 @@ fn texts_go_both_ways(rt: HostRuntime) -> Result<(), Fail> {
     if list.len() == 2 {
         assert!(rt; matches!(list.at(0), Some(b"ab")));
         assert!(rt; matches!(list.at(1), Some(b"")));
+    }
+    Ok(())
+}
+
+#[test]
+fn cuts_of_texts_outlive_the_list(rt: HostRuntime) -> Result<(), Fail> {
+    let mut list = Texts::with_room(rt.alloc(), 3, 4)?;
+    list.push(Some(b"ab"))?;
+    list.push(None)?;
+    list.push(Some(b"cd"))?;
+    let list = SharedTexts::new(list)?;
+    assert_eq!(rt; list.len(), 3);
+    if list.len() == 3 {
+        let first = list.cut(0)?;
+        let none = list.cut(1)?;
+        let last = list.cut(2)?;
+        drop(list);
+        assert!(rt; none.is_none());
+        assert!(rt; first.is_some_and(|text| text.as_slice() == b"ab".as_slice()));
+        assert!(rt; last.is_some_and(|text| text.as_slice() == b"cd".as_slice()));
     }
     Ok(())
 }

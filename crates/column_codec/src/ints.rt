@@ -1,8 +1,8 @@
 // Optional signed numbers.
-ghost use Rattle.std.specs.Prelude.{◌≡◌, ◌<◌, ◌++◌, ◌∷◌, [], length, slice_get, OnOk, OnErr, IfErr, Some};
+ghost use Rattle.std.specs.Prelude.{◌≡◌, ◌<◌, ◌++◌, ◌∷◌, [], length, slice_get, OnOk, OnErr, IfOk, IfErr, Some};
 ghost use Rattle.column_codec.specs.Numbers.{AllFit};
 
-use std::alloc::Global;
+use std::alloc::{AllocError, Global};
 use std::marker::Model;
 
 /// A list of signed numbers, and nulls among them.
@@ -30,6 +30,14 @@ impl Ints {
         Ints {
             items: Vec::new(alloc),
         }
+    }
+
+    /// A list with no value, and room for so many.
+    pub fn with_room(alloc: Global, values: usize) -> Result<Ints, AllocError>
+        ensures { IfOk result (λ it. it ≡ []) }
+    {
+        let items = Vec::with_capacity(alloc, values)?;
+        Ok(Ints { items })
     }
 
     // The list of these values.

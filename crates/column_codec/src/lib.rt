@@ -17,5 +17,5 @@ pub use ints::Ints;
 pub use laws::{lists_are_read_again, lists_have_one_spelling};
 pub use list::{ColumnList, ListKind, Uints};
 pub use read::decode;
-pub use texts::Texts;
+pub use texts::{SharedTexts, Texts};
 pub use write::encode;

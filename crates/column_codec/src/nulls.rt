@@ -1,5 +1,5 @@
 // Which values of a list are null.
-ghost use Rattle.std.specs.Prelude.{◌≡◌, ◌<◌, ◌≤◌, length, ◌==◌};
+ghost use Rattle.std.specs.Prelude.{◌≡◌, ◌<◌, ◌≤◌, ◌&&◌, length, ◌==◌, nat_lt, if◌then◌else◌};
 ghost use Rattle.std.specs.List.{list_all};
 ghost use Rattle.flash_list.specs.Steps.{seen};
 ghost use Rattle.column_codec.specs.Nulls.{is_null, nulls_from, flag_at, bitmap_len, is_no_bitmap, bits_at, bitmap_at};
@@ -107,4 +107,15 @@ pub fn all_null(bitmap: &[u8], count: u64) -> bool
         }
     }
     true
+}
+
+// For how many values room is taken: no more than can stand in these bytes, behind a bitmap that was
+// found to be as long as it must be.
+pub fn room(count: u64, bitmap: &[u8], bytes: &[u8]) -> usize
+    ensures { result ≡ (if length bitmap.now == 0 && nat_lt (length bytes.now) count then length bytes.now else count) }
+{
+    if bitmap.is_empty() && (bytes.len() as u64) < count {
+        return bytes.len();
+    }
+    count as usize
 }

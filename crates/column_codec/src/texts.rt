@@ -10,9 +10,10 @@ ghost use Rattle.column_codec.specs.Nulls.{nulls_from};
 ghost use Rattle.column_codec.specs.Lists.{values_at, value_at, repeated, given, mode_of};
 
 use crate::fault::CodecError;
-use crate::nulls::{all_null, is_null};
+use crate::nulls::{all_null, is_null, room};
 use crate::number::text_of;
 use crate::values::repeated;
+use flash_list::SharedBytes;
 use std::alloc::{AllocError, Global};
 use std::marker::Model;
 
@@ -50,6 +51,15 @@ impl Texts {
             bytes: Vec::new(alloc),
             spans: Vec::new(alloc),
         }
+    }
+
+    /// A list with no value, and room for so many values that have so many bytes together.
+    pub fn with_room(alloc: Global, values: usize, bytes: usize) -> Result<Texts, AllocError>
+        ensures { IfOk result (λ it. it ≡ []) }
+    {
+        let bytes = Vec::with_capacity(alloc, bytes)?;
+        let spans = Vec::with_capacity(alloc, values)?;
+        Ok(Texts { bytes, spans })
     }
 
     /// The number of values.
@@ -103,6 +113,58 @@ impl Texts {
     }
 }
 
+/// A list of byte lists, and nulls among them, of which each is cut with no copy: the cuts share the
+/// piece of memory in which all bytes lie, and it stays while one of them does.
+#[derive(Debug, Drop)]
+pub struct SharedTexts {
+    bytes: SharedBytes,
+    spans: Vec<Option<Span>>,
+}
+
+impl Model for SharedTexts {
+    ghost use Rattle.std.specs.Prelude.{ℕ, List, Option, length};
+    ghost use Rattle.column_codec.specs.Texts.{texts_of, AllLieIn};
+
+    ghost Value = { List (Option (List ℕ)) };
+
+    ghost view = { λ it. texts_of it.bytes it.spans.items };
+
+    ghost invariant = { λ it. AllLieIn (length it.bytes) it.spans.items };
+}
+
+impl SharedTexts {
+    /// The values of a list, whose bytes are taken over and not copied.
+    pub fn new(texts: Texts) -> Result<SharedTexts, AllocError>
+        ensures { IfOk result (λ it. it ≡ texts) }
+    {
+        let Texts { bytes, spans } = texts;
+        let bytes = SharedBytes::from_vec(bytes)?;
+        Ok(SharedTexts { bytes, spans })
+    }
+
+    /// The number of values.
+    pub fn len(&self) -> usize
+        ensures { result ≡ length self.now }
+    {
+        self.spans.len()
+    }
+
+    /// The value at a place, counted from 0. It is one more owner of the bytes of all, and copies
+    /// none.
+    pub fn cut(&self, i: usize) -> Result<Option<SharedBytes>, AllocError>
+        requires { i < length self.now }
+        ensures { IfOk result (λ text. slice_get self.now i ≡ Some text) }
+    {
+        match self.spans[i] {
+            None => Ok(None),
+            Some(span) => {
+                let text = self.bytes.part(span.from, span.to)?;
+                Ok(Some(text))
+            }
+        }
+    }
+}
+
 // Mode 0: each text that isn't null.
 pub fn texts_of<'a>(
     alloc: Global,
@@ -113,7 +175,7 @@ pub fn texts_of<'a>(
 ) -> Result<(Texts, &'a [u8]), CodecError>
     ensures { Gives (λ x. (x.0, x.1.now)) result (values_at (text_at end) (λ _. tt {0}) (nulls_from bitmap.now 0 count) (tt {0}) bytes.now) }
 {
-    let mut list = Texts::new(alloc);
+    let mut list = Texts::with_room(alloc, room(count, bitmap, bytes), bytes.len())?;
     let mut rest = bytes;
     for i in 0..count {
         if is_null(bitmap, i) {

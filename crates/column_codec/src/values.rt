@@ -8,7 +8,7 @@ ghost use Rattle.column_codec.specs.Nulls.{nulls_from};
 ghost use Rattle.column_codec.specs.Lists.{values_at, value_at, repeated, given, mode_of};
 
 use crate::fault::CodecError;
-use crate::nulls::{all_null, is_null};
+use crate::nulls::{all_null, is_null, room};
 use crate::number::{int_of, uint_of};
 use std::alloc::{AllocError, Global};
 
@@ -23,7 +23,7 @@ pub fn ints_of<'a>(
     ensures exact { Gives (λ x. (x.0.items, x.1.now)) result (values_at (int_at end) (cast_unsigned w64) (nulls_from bitmap.now 0 count) 0 bytes.now) }
     ensures fit { IfOk result (λ x. AllFit x.0.items) }
 {
-    let mut list = Vec::new(alloc);
+    let mut list = Vec::with_capacity(alloc, room(count, bitmap, bytes))?;
     let mut before = 0;
     let mut rest = bytes;
     for i in 0..count {
@@ -53,7 +53,7 @@ pub fn uints_of<'a>(
 ) -> Result<(Vec<Option<u64>>, &'a [u8]), CodecError>
     ensures { Gives (λ x. (x.0.items, x.1.now)) result (values_at (uint_at end) (λ n. n) (nulls_from bitmap.now 0 count) 0 bytes.now) }
 {
-    let mut list = Vec::new(alloc);
+    let mut list = Vec::with_capacity(alloc, room(count, bitmap, bytes))?;
     let mut before = 0;
     let mut rest = bytes;
     for i in 0..count {

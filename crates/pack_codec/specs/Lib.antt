@@ -4,3 +4,4 @@ pub mod Counted
 pub mod Reading
 pub mod Spelling
 pub mod Laws
+pub mod Cuts

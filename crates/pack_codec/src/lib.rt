@@ -1,6 +1,7 @@
 //! Packs: versions of rows as column lists, the form that the tiny and the stable files share.
 #![tactic(auto)]
 
+mod cuts;
 mod fault;
 mod field;
 mod heads;

@@ -7,6 +7,7 @@ ghost use Rattle.pack_codec.specs.Rows.{handles_in, versions_from};
 ghost use Rattle.pack_codec.specs.Counted.{HasRows, AllHaveRows, HeadsHaveRows};
 ghost use Rattle.pack_codec.specs.Reading.{list_kind, list_behind, column_in, heads_at, columns_at, width_at, ended, pack_at};
 
+use crate::cuts::CutList;
 use crate::fault::FormError;
 use crate::heads::Heads;
 use crate::lists::{any_behind, handles_behind, here, marks_behind, stamps_behind};
@@ -61,7 +62,7 @@ fn column_in(marks: &Uints, count: u64, found: Option<ColumnList>) -> Option<Col
     }
 }
 
-// The list of a column.
+// The list of a column, as cells are made of it.
 #[tactic(auto, unfolding(crate::specs::Reading::list_behind))]
 fn column_of<'a>(
     alloc: Global,
@@ -70,7 +71,7 @@ fn column_of<'a>(
     count: u64,
     end: u64,
     bytes: &'a [u8],
-) -> Result<(ColumnList, &'a [u8]), FormError>
+) -> Result<(CutList, &'a [u8]), FormError>
     requires { length marks.now ≡ count }
     ensures exact { Gives (λ x. (x.0, x.1.now)) result (list_behind (list_kind column.kind) (column_in marks.now count) count end bytes.now) }
     ensures rows { IfOk result (λ x. HasRows count x.0) }
@@ -78,7 +79,10 @@ fn column_of<'a>(
     let kind = list_kind(column.kind);
     let (found, from, rest) = any_behind(alloc, kind, count, end, bytes)?;
     match column_in(marks, count, found) {
-        Some(list) => Ok((list, rest)),
+        Some(list) => {
+            let list = CutList::new(list)?;
+            Ok((list, rest))
+        }
         None => Err(here(end, from)),
     }
 }
@@ -91,12 +95,12 @@ fn columns_of<'a>(
     count: u64,
     end: u64,
     bytes: &'a [u8],
-) -> Result<(Vec<ColumnList>, &'a [u8]), FormError>
+) -> Result<(Vec<CutList>, &'a [u8]), FormError>
     requires { length marks.now ≡ count }
     ensures exact { Gives (λ x. (x.0.items, x.1.now)) result (columns_at end count marks.now columns.now bytes.now) }
     ensures rows { IfOk result (λ x. AllHaveRows count x.0.items) }
 {
-    let mut lists = Vec::new(alloc);
+    let mut lists = Vec::with_capacity(alloc, columns.len())?;
     let mut rest = bytes;
     for column in columns {
         let (list, behind) = column_of(alloc, marks, *column, count, end, rest)?;

@@ -4,8 +4,9 @@ ghost use Rattle.column_codec.specs.Laws.{count_of};
 ghost use Rattle.pack_codec.specs.Rows.{is_gone, cell_at, is_null, may_have, null_from, version_at, versions_from};
 ghost use Rattle.pack_codec.specs.Counted.{AllHaveRows, HeadsHaveRows};
 
+use crate::cuts::CutList;
 use crate::heads::Heads;
-use column_block::{Block, Cell, CellBytes, Cells, Memory, Version};
+use column_block::{Block, Cells, Memory, Version};
 use column_codec::{ColumnList, Uints};
 use flash_list::Items;
 use std::alloc::Global;
@@ -57,37 +58,8 @@ pub fn null_where_gone(marks: &Uints, list: &ColumnList, count: usize) -> bool
     true
 }
 
-fn cell_at(alloc: Global, list: &ColumnList, i: usize) -> Result<Cell, Memory>
-    requires { i < count_of list.now }
-    ensures { IfOk result (λ cell. cell ≡ cell_at list.now i) }
-{
-    match list {
-        ColumnList::Int(values) => match values.at(i) {
-            Some(number) => Ok(Cell::Int(number)),
-            None => Ok(Cell::Null),
-        },
-        ColumnList::Uint(values) => match values.at(i) {
-            Some(number) => Ok(Cell::Uint(*number)),
-            None => Ok(Cell::Null),
-        },
-        ColumnList::Bytes(values) => match values.at(i) {
-            Some(text) => bytes_cell(alloc, text),
-            None => Ok(Cell::Null),
-        },
-    }
-}
-
-fn bytes_cell(alloc: Global, text: &[u8]) -> Result<Cell, Memory>
-    ensures { IfOk result (λ cell. cell ≡ Cell.Bytes text.now) }
-{
-    match CellBytes::from_slice(alloc, text) {
-        Ok(bytes) => Ok(Cell::Bytes(bytes)),
-        Err(_) => Err(Memory),
-    }
-}
-
 // The cells of row i.
-fn cells_at(alloc: Global, count: usize, lists: &[ColumnList], i: usize) -> Result<Cells, Memory>
+fn cells_at(alloc: Global, count: usize, lists: &[CutList], i: usize) -> Result<Cells, Memory>
     requires rows { AllHaveRows count lists.now }
     requires within { i < count }
     ensures { IfOk result (λ cells. cells ≡ map (λ list. cell_at list i) lists.now) }
@@ -96,7 +68,7 @@ fn cells_at(alloc: Global, count: usize, lists: &[ColumnList], i: usize) -> Resu
         return Err(Memory);
     };
     for list in lists {
-        let cell = cell_at(alloc, list, i)?;
+        let cell = list.cell(i)?;
         let Ok(()) = cells.push(cell) else {
             return Err(Memory);
         };
@@ -109,7 +81,7 @@ fn cells_unless(
     gone: bool,
     alloc: Global,
     count: usize,
-    lists: &[ColumnList],
+    lists: &[CutList],
     i: usize,
 ) -> Result<Cells, Memory>
     requires rows { AllHaveRows count lists.now }
@@ -127,7 +99,7 @@ fn version_at(
     alloc: Global,
     count: usize,
     heads: &Heads,
-    lists: &[ColumnList],
+    lists: &[CutList],
     i: usize,
 ) -> Result<Version, Memory>
     requires heads { HeadsHaveRows count heads.now }
@@ -150,7 +122,7 @@ pub fn block_of(
     alloc: Global,
     count: usize,
     heads: &Heads,
-    lists: &[ColumnList],
+    lists: &[CutList],
 ) -> Result<Block, Memory>
     requires heads { HeadsHaveRows count heads.now }
     requires rows { AllHaveRows count lists.now }

@@ -27,7 +27,7 @@ fn ints_of(
     requires within { to ≤ length block.now }
     ensures list { IfOk result (λ list. list ≡ map (spelling.int_of field) (slice_range block.now from to)) }
 {
-    let mut list = Ints::new(alloc);
+    let mut list = Ints::with_room(alloc, to - from)?;
     for i in from..to {
         let Ok(()) = list.push(int_of(field, block.at(i))) else {
             return Err(AllocError);
@@ -48,7 +48,7 @@ fn uints_of(
     ensures list { IfOk result (λ list. list ≡ map (spelling.uint_of field) (slice_range block.now from to)) }
     ensures fits { IfOk result (λ list. AllByRecursion UintFits list) }
 {
-    let mut list = Items::new(alloc);
+    let mut list = Items::from_vec(Vec::with_capacity(alloc, to - from)?);
     for i in from..to {
         let Ok(()) = list.push(uint_of(field, block.at(i))) else {
             return Err(AllocError);
@@ -69,7 +69,7 @@ fn texts_of(
     ensures list { IfOk result (λ list. list ≡ map (spelling.text_of field) (slice_range block.now from to)) }
     ensures fits { IfOk result (λ list. AllByRecursion TextFits list) }
 {
-    let mut list = Texts::new(alloc);
+    let mut list = Texts::with_room(alloc, to - from, 0)?;
     for i in from..to {
         list.push(text_of(field, block.at(i)))?;
     }

@@ -9,7 +9,7 @@ use Rattle.column_codec.proofs.texts.texts_of.Goals as goal
 
 pub returns-in_err-text : goal.returns-in_err-text
 returns-in_err-text c =
-    let p = err_from_is_err_and c.from_residual.result c.from_residual.ensures.1 in
+    let p = err_from_is_err_and c.from_residual-in_err-text.result c.from_residual-in_err-text.ensures.1 in
     let total = values_at (text_at c.args.end) (λ _. tt {0}) (nulls_from c.args.bitmap.now 0 c.args.count) (tt {0}) c.args.bytes.now in
     rw (p.1, p.2) (fails_here (text_at c.args.end) (λ _. tt {0}) c.loop-i.list c.args.bitmap.now c.args.count c.loop-i.i (tt {0}) c.loop-i.rest.now c.in_err-text.field-0.0 total c.loop-i-test.true (sym c.is_null.ensures ∙ c.if-is_null.false) (sym c.in_err-text.ensures) c.loop-i.invariant)
 

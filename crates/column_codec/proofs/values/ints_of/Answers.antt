@@ -11,13 +11,13 @@ use Rattle.column_codec.proofs.values.ints_of.Goals as goal
 
 pub loop-i-init : goal.loop-i-init
 loop-i-init c = record {
-  read = rw c.new-list.ensures.items (starts (int_at c.args.end) (cast_unsigned w64) c.args.bitmap.now c.args.count 0 c.args.bytes.now);
-  fit = rw c.new-list.ensures.items (tt {0});
+  read = rw c.in_ok-list.ensures.items (starts (int_at c.args.end) (cast_unsigned w64) c.args.bitmap.now c.args.count 0 c.args.bytes.now);
+  fit = rw c.in_ok-list.ensures.items (tt {0});
 }
 
 pub returns-in_err-n-clause-exact : goal.returns-in_err-n-clause-exact
 returns-in_err-n-clause-exact c =
-    let p = err_from_is_err_and c.from_residual.result c.from_residual.ensures.1 in
+    let p = err_from_is_err_and c.from_residual-in_err-n.result c.from_residual-in_err-n.ensures.1 in
     let total = values_at (int_at c.args.end) (cast_unsigned w64) (nulls_from c.args.bitmap.now 0 c.args.count) 0 c.args.bytes.now in
     rw (p.1, p.2) (fails_here (int_at c.args.end) (cast_unsigned w64) c.loop-i.list.items c.args.bitmap.now c.args.count c.loop-i.i c.loop-i.before c.loop-i.rest.now c.in_err-n.field-0.0 total c.loop-i-test.true (sym c.is_null.ensures ∙ c.if-is_null.false) (int_fails c.args.end c.loop-i.before c.loop-i.rest.now c.in_err-n.field-0.0 (sym c.in_err-n.ensures)) c.loop-i.invariant.read)
 

@@ -8,11 +8,11 @@ use Rattle.column_codec.proofs.values.uints_of.Goals.{then-is_null+in-Ok, else-i
 use Rattle.column_codec.proofs.values.uints_of.Goals as goal
 
 pub loop-i-init : goal.loop-i-init
-loop-i-init c = rw c.new-list.ensures.items (starts (uint_at c.args.end) (λ n. n) c.args.bitmap.now c.args.count 0 c.args.bytes.now)
+loop-i-init c = rw c.in_ok-list.ensures.items (starts (uint_at c.args.end) (λ n. n) c.args.bitmap.now c.args.count 0 c.args.bytes.now)
 
 pub returns-in_err-n : goal.returns-in_err-n
 returns-in_err-n c =
-    let p = err_from_is_err_and c.from_residual.result c.from_residual.ensures.1 in
+    let p = err_from_is_err_and c.from_residual-in_err-n.result c.from_residual-in_err-n.ensures.1 in
     let total = values_at (uint_at c.args.end) (λ n. n) (nulls_from c.args.bitmap.now 0 c.args.count) 0 c.args.bytes.now in
     rw (p.1, p.2) (fails_here (uint_at c.args.end) (λ n. n) c.loop-i.list.items c.args.bitmap.now c.args.count c.loop-i.i c.loop-i.before c.loop-i.rest.now c.in_err-n.field-0.0 total c.loop-i-test.true (sym c.is_null.ensures ∙ c.if-is_null.false) (sym c.in_err-n.ensures) c.loop-i.invariant)
 

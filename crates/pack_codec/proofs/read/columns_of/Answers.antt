@@ -7,13 +7,13 @@ use Rattle.pack_codec.proofs.read.columns_of.Goals as goal
 
 pub loop-column-init : goal.loop-column-init
 loop-column-init c = record {
-  read = rw c.new-lists.ensures.items (nothing_before (columns_at c.args.end c.args.count c.args.marks.now c.args.columns.now c.args.bytes.now));
-  rows = rw c.new-lists.ensures.items tt;
+  read = rw c.in_ok-lists.ensures.items (nothing_before (columns_at c.args.end c.args.count c.args.marks.now c.args.columns.now c.args.bytes.now));
+  rows = rw c.in_ok-lists.ensures.items tt;
 }
 
 pub returns-in_err-list-clause-exact : goal.returns-in_err-list-clause-exact
 returns-in_err-list-clause-exact c =
-    let p = err_from_is_err_and c.from_residual.result c.from_residual.ensures.1 in
+    let p = err_from_is_err_and c.from_residual-in_err-list.result c.from_residual-in_err-list.ensures.1 in
     let total = columns_at c.args.end c.args.count c.args.marks.now c.args.columns.now c.args.bytes.now in
     rw (p.1, p.2) (fails_here c.args.end c.args.count c.args.marks.now c.args.columns.now c.loop-column.column-index _ c.loop-column.lists.items c.loop-column.rest.now c.in_err-list.field-0.0 total c.loop-column-test.true c.in_err-list.ensures.exact c.loop-column.invariant.read)
 
