@@ -1,5 +1,5 @@
 // The table of the format, both ways, and the refusals that it names.
-use column_codec::{CodecError, ColumnList, Ints, ListKind, Texts, decode, encode};
+use column_codec::{CodecError, ColumnList, Ints, ListKind, SharedTexts, Texts, decode, encode};
 use std::alloc::Global;
 use std::test::Fail;
 
