@@ -25,6 +25,3 @@ pub use fault::TableError;
 pub use laws::files_are_read_again;
 pub use put::write_regions;
 pub use reading::read_regions;
-
-#[cfg(test)]
-mod tests;

@@ -13,6 +13,3 @@ mod settle;
 mod union;
 
 pub use region::{Locks, Region, Values};
-
-#[cfg(test)]
-mod tests;

@@ -24,6 +24,3 @@ pub use laws::{
 };
 pub use region_file::TableError;
 pub use table::{Counted, RegionTable};
-
-#[cfg(test)]
-mod tests;

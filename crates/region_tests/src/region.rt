@@ -5,12 +5,12 @@ ghost use Rattle.flash_types.specs.Ranges.{holds};
 ghost use Rattle.region_state.specs.Folding.{lies_in};
 ghost use Rattle.region_state.specs.State.{born};
 
-use crate::Region;
 use column_block::{Column, Kind, Schema};
 use committed_log::FamilyOp;
 use flash_types::{Epoch, HandleRange};
 use kv_codec::LockKind;
 use log_codec::OpBytes;
+use region_state::Region;
 use std::alloc::Global;
 use std::test::Fail;
 

@@ -3,12 +3,12 @@ ghost use Rattle.std.specs.Prelude.{◌≡◌, ◌<◌, length, IfOk};
 ghost use Rattle.committed_log.specs.Lawful.{IsWritable};
 ghost use Rattle.region_table.specs.Table.{Agrees};
 
-use crate::{ApplyError, RegionTable};
 use column_block::{Column, Kind, Schema};
 use committed_log::Logs;
 use kv_codec::{encode_key, put_ts};
 use log_codec::{Entry, frames_have_one_spelling, read_frame};
 use raft_apply::parse;
+use region_table::{ApplyError, RegionTable};
 use std::alloc::{AllocError, Global};
 use std::test::Fail;
 

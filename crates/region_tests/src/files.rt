@@ -1,5 +1,5 @@
-use super::*;
 use flash_types::{Epoch, HandleRange};
+use region_file::{Entries, Entry, TableError, read_regions, write_regions};
 use region_state::Region;
 use std::test::*;
 

@@ -6,11 +6,11 @@ ghost use Rattle.region_table.specs.Table.{Agrees};
 mod files;
 mod lines;
 
-use crate::{ApplyError, RegionTable, empty_tables_agree};
 use committed_log::Logs;
 use flash_types::{Ask, AskRegion, Epoch, HandleRange, Refusal, Wants};
 use lines::{Act, Line, apply_at, log_of};
 use raft_apply::parse;
+use region_table::{ApplyError, RegionTable, empty_tables_agree};
 use std::alloc::Global;
 use std::test::*;
 

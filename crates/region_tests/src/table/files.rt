@@ -1,7 +1,7 @@
 // Tables that go through a file, and whether a table is that of a log.
 use super::lines::{Act, Line, log_of};
 use super::{LEAST, RECORD, applied};
-use crate::{RegionTable, TableError};
+use region_table::{RegionTable, TableError};
 use std::alloc::Global;
 use std::test::*;
 

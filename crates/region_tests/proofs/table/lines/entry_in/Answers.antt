@@ -1,5 +1,5 @@
 use Rattle.log_codec.specs.Writable.{AreBytes}
-use Rattle.region_table.proofs.tests.lines.entry_in.Goals as goal
+use Rattle.region_tests.proofs.table.lines.entry_in.Goals as goal
 
 pub returns-in-Ok : goal.returns-in-Ok
 returns-in-Ok c =
