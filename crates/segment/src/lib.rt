@@ -6,7 +6,7 @@
 mod laws;
 mod segments;
 
-pub use laws::{repacked_segments_show_the_same, swapped_segments_show_the_same};
+pub use laws::{repacked_segments_show_the_same, swapped_segments_show_the_same, views_stay};
 pub use segments::{Segment, Stale};
 
 /// Memory ran out.
