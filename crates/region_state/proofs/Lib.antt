@@ -4,3 +4,4 @@ pub mod Uniting
 pub mod Lying
 pub mod Settling
 pub mod Folds
+pub mod Undoing

@@ -36,7 +36,7 @@ module _ {K : Type 0} {R : K → K → Ordering} (o : IsTotalOrder R) where
   turned : (x y : K) → is_at (R x) y ≡ is_at (R y) x
   turned x y = ap is_eq (o.antisymm x y) ∙ turned_eq (R y x)
 
-  itself : (k : K) → is_at (R k) k ≡ true
+  pub itself : (k : K) → is_at (R k) k ≡ true
   itself k = ap is_eq (tied_itself o k)
 
 module _ {K X : Type 0} {R : K → K → Ordering} (o : IsTotalOrder R) where

@@ -2,3 +2,4 @@ pub mod State
 pub mod Folding
 pub mod Standing
 pub mod Settling
+pub mod Undoing

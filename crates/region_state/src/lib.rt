@@ -2,6 +2,9 @@
 //! default and lock families have for its handles.
 #![tactic(auto)]
 
+mod advance;
+mod changes;
+mod journal;
 mod locks;
 mod parts;
 mod plan;

@@ -1,5 +1,4 @@
-// The versions that changes commit, and what they do to the default family, told over the region as
-// it is: nothing of it changes.
+// The versions that changes commit, told over the region as it is: nothing of it changes.
 ghost use Rattle.std.specs.Prelude.{◌≡◌, ℕ, ℤ, [], ◌∷◌, ◌++◌, IfOk, OnOk, Some, None, cond, map, option_copied, option_map};
 ghost use Rattle.std.specs.BTreeMap.{get, is_at};
 ghost use Rattle.std.specs.Option.{option_or};
@@ -8,6 +7,7 @@ ghost use Rattle.committed_log.specs.Store.{Store, value_cmp, committed_value};
 ghost use Rattle.region_state.specs.Folding.{version_of, committed, after_one, after_all};
 ghost use Rattle.region_state.specs.Standing.{seen, Stands, commit_of};
 
+use crate::changes::{ValueChanges, change_value};
 use crate::region::Values;
 use column_block::{Block, Cells, Memory, Schema, Version};
 use committed_log::FamilyOp;
@@ -18,23 +18,6 @@ use row_codec::RowView;
 use row_decode::{DecodeError, cells};
 use std::alloc::Global;
 use std::collections::BTreeMap;
-
-/// What changes do to the default family: at each place a value, or none where it is taken out.
-pub type ValueChanges = BTreeMap<(Handle, Ts), Option<OpBytes>>;
-
-fn note_value(
-    changes: &mut ValueChanges,
-    handle: Handle,
-    start: Ts,
-    value: Option<OpBytes>,
-) -> Result<(), Memory>
-    ensures { OnOk result ((q : ℤ × ℕ) → get value_cmp changes.new q ≡ cond (is_at (value_cmp (handle, start)) q) (Some value) (get value_cmp changes.old q)) }
-{
-    match changes.insert((handle, start), value) {
-        Ok(_) => Ok(()),
-        Err(_) => Err(Memory),
-    }
-}
 
 fn changed<'a>(changes: &'a ValueChanges, handle: Handle, start: Ts) -> Option<&'a Option<OpBytes>>
     ensures { option_copied result ≡ get value_cmp changes.now (handle, start) }
@@ -167,17 +150,8 @@ fn step(
     ensures commits { OnOk result ((s : Store) → Stands values.now.entries changes.old s → block.new ≡ block.old ++ map (version_of schema.now) (committed s op.now)) }
 {
     match op {
-        FamilyOp::Value {
-            handle,
-            start,
-            bytes,
-        } => {
-            let Ok(bytes) = bytes.share() else {
-                return Err(Memory);
-            };
-            note_value(changes, *handle, *start, Some(bytes))
-        }
-        FamilyOp::DropValue { handle, start } => note_value(changes, *handle, *start, None),
+        FamilyOp::Value { .. } => change_value(changes, op),
+        FamilyOp::DropValue { .. } => change_value(changes, op),
         FamilyOp::Lock { .. } => Ok(()),
         FamilyOp::Unlock { .. } => Ok(()),
         FamilyOp::Write {
@@ -201,15 +175,14 @@ fn step(
     }
 }
 
-/// The versions that changes commit, in order, and what they do to the default family.
-pub fn plan(
+/// The versions that changes commit, in order.
+pub fn versions(
     alloc: Global,
     values: &Values,
     ops: &[FamilyOp],
     schema: &Schema,
-) -> Result<(Block, ValueChanges), Memory>
-    ensures versions { IfOk result (λ found. (s : Store) → s.values ≡ values.now.entries → s.commits ≡ [] → found.0 ≡ map (version_of schema.now) (after_all s ops.now).commits) }
-    ensures stands { IfOk result (λ found. (s : Store) → s.values ≡ values.now.entries → Stands values.now.entries found.1 (after_all s ops.now)) }
+) -> Result<Block, Memory>
+    ensures { IfOk result (λ block. (s : Store) → s.values ≡ values.now.entries → s.commits ≡ [] → block ≡ map (version_of schema.now) (after_all s ops.now).commits) }
 {
     // Gives the proof that the keys are in order.
     let _len = values.len();
@@ -218,5 +191,5 @@ pub fn plan(
     for op in ops {
         step(alloc, values, &mut changes, &mut block, op, schema)?;
     }
-    Ok((block, changes))
+    Ok(block)
 }

@@ -12,10 +12,10 @@ ghost use Rattle.region_state.specs.Folding.{versions_of, folded, lies_in};
 ghost use Rattle.std.specs.List.{list_all};
 ghost use Rattle.region_state.specs.State.{born, prepared, IsWithin, lower_of, upper_of, absorbed};
 
+use crate::advance::advance;
 use crate::locks::first_lock;
 use crate::parts::{lower_part, merged, part_values, parted_locks, upper_part};
-use crate::plan::plan;
-use crate::settle::{lock_changes, make_room, settle};
+use crate::plan::versions;
 use crate::union::{add_all, add_locks, take_out};
 use column_block::{Block, Memory, Schema};
 use committed_log::{Descriptor, FamilyOp, Lock};
@@ -222,8 +222,24 @@ impl Region {
     pub fn versions(&self, ops: &[FamilyOp], schema: &Schema) -> Result<Block, Memory>
         ensures { IfOk result (λ block. block ≡ versions_of schema.now self.now ops.now) }
     {
-        let (block, _) = plan(self.alloc, &self.values, ops, schema)?;
-        Ok(block)
+        versions(self.alloc, &self.values, ops, schema)
+    }
+
+    /// Makes the changes of an entry, in order. The last index becomes the entry's. It makes no
+    /// versions: `versions` answers those that the changes commit, where they aren't made yet. After
+    /// `Memory` the region is as before.
+    pub fn advance(&mut self, index: u64, ops: &[FamilyOp]) -> Result<(), Memory>
+        requires { list_all (lies_in self.old.descriptor.range) ops.now ≡ true }
+        ensures folded { OnOk result (self.new ≡ folded self.old index ops.now) }
+        ensures err { OnErr result (self.new ≡ self.old) }
+    {
+        match advance(self.alloc, &mut self.values, &mut self.locks, ops) {
+            Ok(()) => {
+                self.descriptor.index = index;
+                Ok(())
+            }
+            Err(_) => Err(Memory),
+        }
     }
 
     /// Makes the changes of an entry, in order, and answers the versions that they commit. The last
@@ -236,18 +252,8 @@ impl Region {
         ensures folded { OnOk result (self.new ≡ folded self.old index ops.now) }
         ensures err { OnErr result (self.new ≡ self.old) }
     {
-        let (block, values) = plan(self.alloc, &self.values, ops, schema)?;
-        let locks = lock_changes(self.alloc, ops)?;
-        let Ok(fresh) = make_room(self.alloc, &mut self.values, &values) else {
-            return Err(Memory);
-        };
-        let Ok(_room) = make_room(self.alloc, &mut self.locks, &locks) else {
-            take_out(&mut self.values, &fresh);
-            return Err(Memory);
-        };
-        settle(&mut self.values, values);
-        settle(&mut self.locks, locks);
-        self.descriptor.index = index;
+        let block = self.versions(ops, schema)?;
+        self.advance(index, ops)?;
         Ok(block)
     }
 

@@ -5,13 +5,10 @@ ghost use Rattle.std.specs.List.Sorted.{IsStrictlySortedBy};
 ghost use Rattle.std.specs.Map.{lookup, keys_of};
 ghost use Rattle.region_state.specs.Standing.{seen};
 ghost use Rattle.region_state.specs.State.{outside};
-ghost use Rattle.std.specs.Ordering.{int_cmp};
-ghost use Rattle.region_state.specs.Settling.{CanSettle, Ready, settle_step, settled, missing_step, missing, lock_change, lock_changes};
+ghost use Rattle.region_state.specs.Settling.{CanSettle, Ready, settle_step, settled, missing_step, missing};
 
 use crate::union::{Share, add_all, put, remove};
 use column_block::Memory;
-use committed_log::{FamilyOp, Lock};
-use flash_types::Handle;
 use std::alloc::Global;
 use std::collections::BTreeMap;
 
@@ -63,7 +60,12 @@ fn overwrite<K: Ord + Copy, V: Share + Drop>(map: &mut BTreeMap<K, V>, key: K, v
     }
 }
 
-fn settle_one<K: Ord + Copy, V: Share + Drop>(map: &mut BTreeMap<K, V>, key: K, change: Option<V>)
+/// Makes one change, which takes no memory where a value is put only where there is one.
+pub fn settle_one<K: Ord + Copy, V: Share + Drop>(
+    map: &mut BTreeMap<K, V>,
+    key: K,
+    change: Option<V>,
+)
     requires { CanSettle K.cmp map.old.entries (key, change) }
     ensures { map.new.entries ≡ settle_step K.cmp map.old.entries (key, change) }
 {
@@ -111,50 +113,4 @@ pub fn make_room<K: Ord + Copy, V: Share + Drop>(
         Ok(()) => Ok(fresh),
         Err(_) => Err(Memory),
     }
-}
-
-/// What changes do to the lock family: at each handle a lock, or none where it is taken out.
-pub type LockChanges = BTreeMap<Handle, Option<Lock>>;
-
-fn note_lock(changes: &mut LockChanges, handle: Handle, lock: Option<Lock>) -> Result<(), Memory>
-    ensures { OnOk result (changes.new.entries ≡ insert_entry int_cmp changes.old.entries handle lock) }
-{
-    match changes.insert(handle, lock) {
-        Ok(_) => Ok(()),
-        Err(_) => Err(Memory),
-    }
-}
-
-fn lock_step(changes: &mut LockChanges, op: &FamilyOp) -> Result<(), Memory>
-    ensures { OnOk result (changes.new.entries ≡ lock_change changes.old.entries op.now) }
-{
-    match op {
-        FamilyOp::Lock {
-            handle,
-            kind,
-            start,
-        } => note_lock(
-            changes,
-            *handle,
-            Some(Lock {
-                kind: *kind,
-                start: *start,
-            }),
-        ),
-        FamilyOp::Unlock { handle } => note_lock(changes, *handle, None),
-        FamilyOp::Value { .. } => Ok(()),
-        FamilyOp::DropValue { .. } => Ok(()),
-        FamilyOp::Write { .. } => Ok(()),
-    }
-}
-
-/// What changes do to the lock family, all in order.
-pub fn lock_changes(alloc: Global, ops: &[FamilyOp]) -> Result<LockChanges, Memory>
-    ensures { IfOk result (λ changes. changes.entries ≡ lock_changes ops.now) }
-{
-    let mut changes = BTreeMap::new(alloc);
-    for op in ops {
-        lock_step(&mut changes, op)?;
-    }
-    Ok(changes)
 }

@@ -1,5 +1,8 @@
 // The happy paths of the calls that take memory.
-ghost use Rattle.std.specs.Prelude.{◌≡◌};
+ghost use Rattle.std.specs.Prelude.{◌≡◌, IfOk, None, pos, true};
+ghost use Rattle.std.specs.List.{list_all};
+ghost use Rattle.flash_types.specs.Ranges.{holds};
+ghost use Rattle.region_state.specs.Folding.{lies_in};
 ghost use Rattle.region_state.specs.State.{born};
 
 use crate::Region;
@@ -116,4 +119,64 @@ fn values_and_locks_come_and_go(rt: HostRuntime) -> Result<(), Fail> {
     assert_eq!(rt; region.locks(), 0);
     assert_eq!(rt; region.index(), 7);
     Ok(())
+}
+
+// A value, or a lock, of a transaction that began at 8.
+fn value(alloc: Global, handle: i64) -> Result<FamilyOp, Fail>
+    requires { holds (record { low = pos 0; high = None }) handle ≡ true }
+    ensures { IfOk result (λ op. lies_in (record { low = pos 0; high = None }) op ≡ true) }
+{
+    let Ok(bytes) = OpBytes::from_slice(alloc, b"value") else {
+        return Err("memory".into());
+    };
+    Ok(FamilyOp::Value {
+        handle,
+        start: 8,
+        bytes,
+    })
+}
+
+fn lock(handle: i64) -> FamilyOp
+    requires { holds (record { low = pos 0; high = None }) handle ≡ true }
+    ensures { lies_in (record { low = pos 0; high = None }) result ≡ true }
+{
+    FamilyOp::Lock {
+        handle,
+        kind: LockKind::Put,
+        start: 8,
+    }
+}
+
+fn has(region: &Region, index: u64, values: usize, locks: usize) -> Result<(), Fail> {
+    if region.index() == index && region.values() == values && region.locks() == locks {
+        return Ok(());
+    }
+    Err(Fail::from(region.values()))
+}
+
+// Changes that are made, all of them, or else none, for want of memory.
+fn makes(region: &mut Region, ops: &[FamilyOp], values: usize, locks: usize) -> Result<(), Fail>
+    requires { list_all (lies_in region.old.descriptor.range) ops.now ≡ true }
+{
+    let before = (region.index(), region.values(), region.locks());
+    match region.advance(9, ops) {
+        Ok(()) => has(region, 9, values, locks),
+        Err(_) => has(region, before.0, before.1, before.2),
+    }
+}
+
+#[test]
+fn several_puts_are_made_or_taken_back(rt: HostRuntime) -> Result<(), Fail> {
+    let mut region = region(rt.alloc(), 0, None);
+    let (one, two) = (value(rt.alloc(), 1)?, value(rt.alloc(), 2)?);
+    let ops = Vec::from_array(rt.alloc(), [one, lock(1), two, lock(2)])?;
+    makes(&mut region, &ops, 2, 2)
+}
+
+#[test]
+fn a_lock_is_put_behind_one_that_is_taken_out(rt: HostRuntime) -> Result<(), Fail> {
+    let mut region = region(rt.alloc(), 0, None);
+    let unlock = FamilyOp::Unlock { handle: 1 };
+    let ops = Vec::from_array(rt.alloc(), [lock(1), lock(2), unlock, lock(3)])?;
+    makes(&mut region, &ops, 0, 2)
 }

@@ -3,7 +3,7 @@ use Rattle.committed_log.specs.Store.{Store}
 use Rattle.region_state.specs.Standing.{Stands}
 use Rattle.region_state.specs.Folding.{after_all, version_of}
 use Rattle.region_state.proofs.Planning.{stands_first, all_more, versions_more}
-use Rattle.region_state.proofs.plan.plan.Goals as goal
+use Rattle.region_state.proofs.plan.versions.Goals as goal
 
 pub loop-op-init : goal.loop-op-init
 loop-op-init c = record {
