@@ -13,7 +13,7 @@ use crate::counting::is_applied;
 use crate::fault::ApplyError;
 use crate::step::step;
 use crate::table::{Counted, RegionTable, Regions};
-use column_block::{Memory, Schema};
+use column_block::Memory;
 use committed_log::Logs;
 use raft_apply::Parsed;
 use std::alloc::Global;
@@ -52,25 +52,13 @@ fn count_one(logs: &Logs, regions: &Regions, counted: Counted, position: u64) ->
 }
 
 // Does to the regions what an entry does, or leaves them for want of memory.
-fn advance(
-    alloc: Global,
-    regions: &mut Regions,
-    parsed: &Parsed,
-    schema: &Schema,
-) -> Result<(), Memory>
+fn advance(alloc: Global, regions: &mut Regions, parsed: &Parsed) -> Result<(), Memory>
     requires { CanBeDone (kept_in regions.old.entries) parsed.now.region parsed.now.command }
     ensures ok { OnOk result ((q : ℕ) → kept_in regions.new.entries q ≡ kept_after (kept_in regions.old.entries) parsed.now.region parsed.now.index parsed.now.command q) }
     ensures err { OnErr result (regions.new.entries ≡ regions.old.entries) }
 {
     let _before = regions.len();
-    match step(
-        alloc,
-        regions,
-        parsed.region,
-        parsed.index,
-        &parsed.command,
-        schema,
-    ) {
+    match step(alloc, regions, parsed.region, parsed.index, &parsed.command) {
         Ok(()) => Ok(()),
         Err(_) => {
             let _after = regions.len();
@@ -92,7 +80,7 @@ impl RegionTable {
         logs.told_lawful();
         let _end = logs.len();
         let counted = self.told(logs);
-        match advance(self.alloc, &mut self.regions, parsed, logs.schema()) {
+        match advance(self.alloc, &mut self.regions, parsed) {
             Ok(()) => {
                 self.counted = Some(count_one(logs, &self.regions, counted, parsed.position));
                 Ok(())

@@ -7,7 +7,8 @@ ghost use Rattle.region_table.specs.Table.{size_of, IsCounted, IsTableAt};
 use crate::table::{Counted, RegionTable, Regions, index_of, state_of};
 use committed_log::Logs;
 
-fn has_reached(last: Option<u64>, index: u64) -> bool
+/// Whether a region with this last index has come to an index.
+pub fn has_reached(last: Option<u64>, index: u64) -> bool
     ensures { result ≡ has_reached last index }
 {
     match last {

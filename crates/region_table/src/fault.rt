@@ -8,7 +8,7 @@ ghost use Rattle.region_table.specs.Counting.{applied_in};
 ghost use Rattle.region_table.specs.Faults.{prepare_at_end};
 ghost use Rattle.region_table.specs.Table.{state_in, IsTableAt};
 
-use crate::counting::is_applied;
+use crate::counting::has_reached;
 use crate::table::{RegionTable, Regions, index_of, state_of};
 use committed_log::{Logs, Region as State};
 use flash_types::RegionId;
@@ -58,10 +58,11 @@ fn is_after(last: Option<u64>, index: u64) -> bool
     }
 }
 
-fn own_behind(regions: &Regions, entry: &Entry) -> Option<ApplyError>
+// Whether the entry's own region is behind, by the last index that it has.
+fn own_behind(regions: &Regions, last: Option<u64>, entry: &Entry) -> Option<ApplyError>
+    requires { last ≡ index_of (state_in regions.now.entries entry.now.region) }
     ensures { result ≡ own_behind (state_in regions.now.entries) entry.now }
 {
-    let last = index_of(state_of(regions, entry.region));
     if makes_region(&entry.body) || is_after(last, entry.index) {
         return None;
     }
@@ -121,13 +122,14 @@ pub fn fault_by(logs: &Logs, regions: &Regions, first: u64, position: u64) -> Op
     ensures { (e : Entry) → slice_get logs.now.entries position ≡ Some e → result ≡ fault_by logs.now (state_in regions.now.entries) (applied_in logs.now regions.now.entries position) first (prepare_at_end logs.now e.body) position e }
 {
     let entry = logs.entry(position);
-    if is_applied(logs, regions, position) {
+    let last = index_of(state_of(regions, entry.region));
+    if has_reached(last, entry.index) {
         return Some(ApplyError::Done {
             region: entry.region,
-            applied: index_of(state_of(regions, entry.region)).unwrap_or(0),
+            applied: last.unwrap_or(0),
         });
     }
-    if let Some(early) = own_behind(regions, entry) {
+    if let Some(early) = own_behind(regions, last, entry) {
         return Some(early);
     }
     if let Some(early) = source_behind(regions, prepare_at_end(logs, &entry.body), &entry.body) {

@@ -8,7 +8,7 @@ ghost use Rattle.region_table.specs.Steps.{kept_after, changed, written, if_ther
 ghost use Rattle.region_table.specs.Table.{kept_in};
 
 use crate::table::Regions;
-use column_block::{Memory, Schema};
+use column_block::Memory;
 use committed_log::FamilyOp;
 use flash_types::{Epoch, Handle, HandleRange, RegionId};
 use raft_apply::Command;
@@ -56,34 +56,25 @@ fn bear(regions: &mut Regions, id: RegionId, region: Region) -> Result<(), Memor
 }
 
 // Makes changes where a region is there.
-fn write_in(kept: &mut Kept, index: u64, ops: &[FamilyOp], schema: &Schema) -> Result<(), Memory>
+fn write_in(kept: &mut Kept, index: u64, ops: &[FamilyOp]) -> Result<(), Memory>
     requires { IfThere (Some kept.old) (λ s. list_all (lies_in s.descriptor.range) ops.now ≡ true) }
     ensures ok { OnOk result (kept.new ≡ written kept.old index ops.now) }
     ensures err { OnErr result (kept.new ≡ kept.old) }
 {
     match kept {
         Kept::Gone { .. } => Ok(()),
-        Kept::There { region } => match region.fold(index, ops, schema) {
-            Ok(_) => Ok(()),
-            Err(_) => Err(Memory),
-        },
+        Kept::There { region } => region.advance(index, ops),
     }
 }
 
 // The changes of an entry, in order.
-fn write(
-    regions: &mut Regions,
-    id: RegionId,
-    index: u64,
-    ops: &[FamilyOp],
-    schema: &Schema,
-) -> Result<(), Memory>
+fn write(regions: &mut Regions, id: RegionId, index: u64, ops: &[FamilyOp]) -> Result<(), Memory>
     requires { IfThere (kept_in regions.old.entries id) (λ s. list_all (lies_in s.descriptor.range) ops.now ≡ true) }
     ensures ok { OnOk result ((q : ℕ) → kept_in regions.new.entries q ≡ if_there (kept_in regions.old.entries id) (λ s. changed (kept_in regions.old.entries) id (kept.There (folded s index ops.now))) (kept_in regions.old.entries) q) }
     ensures err { OnErr result ((q : ℕ) → kept_in regions.new.entries q ≡ kept_in regions.old.entries q) }
 {
     match regions.get_mut(&id) {
-        Some(kept) => match write_in(kept, index, ops, schema) {
+        Some(kept) => match write_in(kept, index, ops) {
             Ok(()) => Ok(()),
             Err(_) => Err(Memory),
         },
@@ -238,14 +229,13 @@ fn install(
     epoch: Epoch,
     range: HandleRange,
     ops: &[FamilyOp],
-    schema: &Schema,
 ) -> Result<(), Memory>
     requires { list_all (lies_in range) ops.now ≡ true }
     ensures ok { OnOk result ((q : ℕ) → kept_in regions.new.entries q ≡ changed (kept_in regions.old.entries) id (kept.There (folded (born range epoch index) index ops.now)) q) }
     ensures err { OnErr result (regions.new.entries ≡ regions.old.entries) }
 {
     let mut region = Region::new(alloc, range, epoch, index);
-    if let Err(_) = region.fold(index, ops, schema) {
+    if let Err(_) = region.advance(index, ops) {
         return Err(Memory);
     }
     bear(regions, id, region)
@@ -259,7 +249,6 @@ pub fn step(
     id: RegionId,
     index: u64,
     command: &Command,
-    schema: &Schema,
 ) -> Result<(), Memory>
     requires { CanBeDone (kept_in regions.old.entries) id command.now }
     ensures ok { OnOk result ((q : ℕ) → kept_in regions.new.entries q ≡ kept_after (kept_in regions.old.entries) id index command.now q) }
@@ -271,7 +260,7 @@ pub fn step(
             id,
             Region::new(alloc, *range, *epoch, index),
         ),
-        Command::Write { ops } => write(regions, id, index, ops.as_slice(), schema),
+        Command::Write { ops } => write(regions, id, index, ops.as_slice()),
         Command::Split { at, child } => split(regions, id, index, *at, *child),
         Command::Prepare { target } => {
             prepare(regions, id, index, *target);
@@ -287,8 +276,7 @@ pub fn step(
             *epoch,
             *range,
             ops.as_slice(),
-            schema,
         ),
-        Command::Empty => write(regions, id, index, &[], schema),
+        Command::Empty => write(regions, id, index, &[]),
     }
 }
