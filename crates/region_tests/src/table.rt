@@ -1,23 +1,21 @@
-// The happy paths, and the answers to entries and reads that come too early.
+// The happy paths, and the answers to entries that come too early or again.
 ghost use Rattle.std.specs.Prelude.{◌≡◌, IfOk};
 ghost use Rattle.committed_log.specs.Log.{Log};
 ghost use Rattle.region_table.specs.Table.{Agrees};
 
+mod effects;
 mod files;
 mod lines;
+mod reads;
 
 use committed_log::Logs;
-use flash_types::{Ask, AskRegion, Epoch, HandleRange, Refusal, Wants};
+use flash_types::{Cut, Epoch, HandleRange};
 use lines::{Act, Line, apply_at, log_of};
-use raft_apply::parse;
 use region_table::{ApplyError, RegionTable, empty_tables_agree};
 use std::alloc::Global;
-use std::test::*;
+use std::test::Fail;
 
 const LEAST: i64 = i64::MIN;
-
-// A put record of a row with the number 5 in column 1, by a transaction that began at 7.
-const RECORD: [u8; 14] = [80, 7, 118, 10, 128, 0, 1, 0, 0, 0, 1, 1, 0, 5];
 
 fn empty(alloc: Global, logs: &Logs) -> RegionTable
     ensures { Agrees logs.now result }
@@ -27,21 +25,15 @@ fn empty(alloc: Global, logs: &Logs) -> RegionTable
     RegionTable::empty(alloc)
 }
 
-// Applies the entries from a position up to another.
-fn apply_range(
-    alloc: Global,
-    table: &mut RegionTable,
-    logs: &Logs,
-    from: u64,
-    to: u64,
-) -> Result<(), Fail>
+// Applies the entries before a position.
+fn apply_first(alloc: Global, table: &mut RegionTable, logs: &Logs, count: u64) -> Result<(), Fail>
     requires { Agrees logs.now table.old }
     ensures { Agrees logs.now table.new }
 {
-    for position in from..to {
-        let done = apply_at(alloc, table, logs, position)?;
-        if done.is_err() {
-            return Err("an entry in order".into());
+    for position in 0..count {
+        match apply_at(alloc, table, logs, position) {
+            None => {}
+            Some(_) => return Err("an entry in order".into()),
         }
     }
     Ok(())
@@ -52,206 +44,169 @@ fn applied(alloc: Global, logs: &Logs, count: u64) -> Result<RegionTable, Fail>
     ensures { IfOk result (λ table. Agrees logs.now table) }
 {
     let mut table = empty(alloc, logs);
-    match apply_range(alloc, &mut table, logs, 0, count) {
+    match apply_first(alloc, &mut table, logs, count) {
         Ok(()) => Ok(table),
         Err(fail) => Err(fail),
     }
 }
 
-fn ask(alloc: Global, ts: u64, region: u32, version: u64, index: u64) -> Result<Ask, Fail> {
-    let epoch = Epoch {
-        conf_ver: 1,
-        version,
-    };
-    let asked = AskRegion {
-        region,
-        epoch,
-        index,
-    };
-    let regions = Vec::from_array(alloc, [asked])?;
-    let everything = HandleRange {
-        low: LEAST,
-        high: None,
-    };
-    Ok(Ask::new(ts, regions, everything).ok().ok_or("an ask")?)
+fn counts(table: &RegionTable, logs: &Logs, count: u64) -> Result<(), Fail> {
+    let found = table.count(logs);
+    if found == count {
+        return Ok(());
+    }
+    Err(Fail::from(found))
 }
+
+// A part of the regions and of how many, a bound, and the position that comes next.
+#[derive(Clone, Copy, Debug)]
+struct Next(u32, u32, u64, Option<u64>);
+
+fn is_next(table: &RegionTable, logs: &Logs, case: Next) -> Result<(), Fail> {
+    if case.1 > 0 && table.next_ready(logs, case.0, case.1, case.2) == case.3 {
+        return Ok(());
+    }
+    Err(Fail::from(case))
+}
+
+fn are_next(table: &RegionTable, logs: &Logs, cases: &[Next]) -> Result<(), Fail> {
+    for case in cases {
+        is_next(table, logs, *case)?;
+    }
+    Ok(())
+}
+
+// The entry at a position is refused.
+fn refuses(
+    alloc: Global,
+    table: &mut RegionTable,
+    logs: &Logs,
+    position: u64,
+    wanted: ApplyError,
+) -> Result<(), Fail>
+    requires { Agrees logs.now table.old }
+{
+    match apply_at(alloc, table, logs, position) {
+        Some(why) if why == wanted => Ok(()),
+        found => Err(Fail::from(found)),
+    }
+}
+
+fn has_cut(table: &RegionTable, region: u32, cut: Option<Cut>) -> Result<(), Fail> {
+    let found = table.cut(region);
+    if found == cut {
+        return Ok(());
+    }
+    Err(Fail::from(found))
+}
+
+fn has_applied(table: &RegionTable, region: u32, index: u64) -> Result<(), Fail> {
+    let found = table.applied(region);
+    if found == Some(index) {
+        return Ok(());
+    }
+    Err(Fail::from(found))
+}
+
+// The region that is there above a number.
+fn lives_after(table: &RegionTable, after: Option<u32>, wanted: Option<u32>) -> Result<(), Fail> {
+    let found = match table.live_after(after) {
+        None => None,
+        Some(live) => Some(live.region),
+    };
+    if found == wanted {
+        return Ok(());
+    }
+    Err(Fail::from(found))
+}
+
+// Two regions, of which the lower is merged into the other.
+const MERGE: [Line; 5] = [
+    Line(1, 5, Act::Open(LEAST, Some(100))),
+    Line(2, 5, Act::Open(100, None)),
+    Line(1, 6, Act::Empty),
+    Line(1, 7, Act::Prepare(2)),
+    Line(2, 6, Act::Commit(1)),
+];
+
+const EARLY: ApplyError = ApplyError::Early {
+    region: 1,
+    applied: Some(5),
+    wants: 7,
+};
 
 #[test]
 fn a_commit_waits_for_the_prepare_of_its_source(rt: HostRuntime) -> Result<(), Fail> {
-    let lines = [
-        Line(1, 5, Act::Open(LEAST, Some(100))),
-        Line(2, 5, Act::Open(100, None)),
-        Line(1, 6, Act::Empty),
-        Line(1, 7, Act::Prepare(2)),
-        Line(2, 6, Act::Commit(1)),
-    ];
-    let logs = log_of(rt.alloc(), &lines)?;
+    let logs = log_of(rt.alloc(), &MERGE)?;
     let mut table = applied(rt.alloc(), &logs, 2)?;
-    assert_eq!(rt; table.count(&logs), 2);
-    let early = apply_at(rt.alloc(), &mut table, &logs, 4)?;
-    assert_eq!(rt;
-        early,
-        Err(ApplyError::Early {
-            region: 1,
-            applied: Some(5),
-            wants: 7
-        })
-    );
-    assert_eq!(rt; table.next_ready(&logs, 0, 1, 5), Some(2));
-    assert_eq!(rt; table.next_ready(&logs, 0, 1, 2), None);
-    apply_range(rt.alloc(), &mut table, &logs, 2, 5)?;
-    let cut = table.cut(2).ok_or("a region")?;
-    assert_eq!(rt; cut.range.low, LEAST);
-    assert_eq!(rt; cut.range.high, None);
-    assert_eq!(rt; cut.epoch.conf_ver, 1);
-    assert_eq!(rt; cut.epoch.version, 3);
-    assert!(rt; table.cut(1).is_none());
-    assert_eq!(rt; table.applied(1), Some(7));
-    let again = apply_at(rt.alloc(), &mut table, &logs, 2)?;
-    assert_eq!(rt;
-        again,
-        Err(ApplyError::Done {
-            region: 1,
-            applied: 7
-        })
-    );
-    assert_eq!(rt; table.count(&logs), 5);
-    assert_eq!(rt; table.next_ready(&logs, 0, 1, 5), None);
-    let live = table.live_after(None).ok_or("a region")?;
-    assert_eq!(rt; live.region, 2);
-    assert!(rt; table.live_after(Some(2)).is_none());
-    Ok(())
+    counts(&table, &logs, 2)?;
+    are_next(
+        &table,
+        &logs,
+        &[Next(0, 1, 5, Some(2)), Next(0, 1, 2, None)],
+    )?;
+    refuses(rt.alloc(), &mut table, &logs, 4, EARLY)
 }
+
+const JOINED: Cut = Cut {
+    region: 2,
+    epoch: Epoch {
+        conf_ver: 1,
+        version: 3,
+    },
+    index: 6,
+    range: HandleRange {
+        low: LEAST,
+        high: None,
+    },
+};
+
+// The regions after the merge.
+fn are_joined(table: &RegionTable) -> Result<(), Fail> {
+    has_cut(table, 1, None)?;
+    has_cut(table, 2, Some(JOINED))?;
+    has_applied(table, 1, 7)?;
+    lives_after(table, None, Some(2))?;
+    lives_after(table, Some(2), None)
+}
+
+#[test]
+fn a_region_takes_the_handles_of_its_source(rt: HostRuntime) -> Result<(), Fail> {
+    let logs = log_of(rt.alloc(), &MERGE)?;
+    let table = applied(rt.alloc(), &logs, 5)?;
+    counts(&table, &logs, 5)?;
+    are_next(&table, &logs, &[Next(0, 1, 5, None)])?;
+    are_joined(&table)
+}
+
+const DONE: ApplyError = ApplyError::Done {
+    region: 1,
+    applied: 7,
+};
+
+#[test]
+fn an_entry_is_applied_once(rt: HostRuntime) -> Result<(), Fail> {
+    let logs = log_of(rt.alloc(), &MERGE)?;
+    let mut table = applied(rt.alloc(), &logs, 5)?;
+    refuses(rt.alloc(), &mut table, &logs, 2, DONE)
+}
+
+const APART: [Line; 4] = [
+    Line(1, 5, Act::Open(LEAST, Some(100))),
+    Line(2, 5, Act::Open(100, None)),
+    Line(1, 6, Act::Empty),
+    Line(2, 6, Act::Empty),
+];
+
+const PARTS: [Next; 3] = [
+    Next(0, 2, 4, Some(3)),
+    Next(1, 2, 4, Some(2)),
+    Next(0, 2, 3, Some(2)),
+];
 
 #[test]
 fn an_entry_of_its_part_goes_first(rt: HostRuntime) -> Result<(), Fail> {
-    let lines = [
-        Line(1, 5, Act::Open(LEAST, Some(100))),
-        Line(2, 5, Act::Open(100, None)),
-        Line(1, 6, Act::Empty),
-        Line(2, 6, Act::Empty),
-    ];
-    let logs = log_of(rt.alloc(), &lines)?;
+    let logs = log_of(rt.alloc(), &APART)?;
     let table = applied(rt.alloc(), &logs, 2)?;
-    assert_eq!(rt; table.next_ready(&logs, 0, 2, 4), Some(3));
-    assert_eq!(rt; table.next_ready(&logs, 1, 2, 4), Some(2));
-    assert_eq!(rt; table.next_ready(&logs, 0, 2, 3), Some(2));
-    Ok(())
-}
-
-#[test]
-fn a_put_and_a_delete_lock_block_and_others_do_not(rt: HostRuntime) -> Result<(), Fail> {
-    let put = [
-        Line(1, 5, Act::Open(LEAST, None)),
-        Line(1, 6, Act::Lock(5, &[80, 2, 97, 8, 0])),
-    ];
-    let logs = log_of(rt.alloc(), &put)?;
-    let table = applied(rt.alloc(), &logs, 2)?;
-    let earlier = ask(rt.alloc(), 7, 1, 1, 5)?;
-    assert!(rt; table.judge(&logs, &earlier, 0, 0).is_none());
-    let at = ask(rt.alloc(), 8, 1, 1, 5)?;
-    let locked = Refusal::Locked {
-        region: 1,
-        index: 6,
-        handle: 5,
-        start: 8,
-    };
-    assert_eq!(rt; table.judge(&logs, &at, 0, 0), Some(locked));
-    let safe = table.judge(&logs, &at, 9, 0);
-    assert_eq!(rt; safe, Some(Refusal::BelowSafePoint { safe_point: 9 }));
-    let shared = [
-        Line(1, 5, Act::Open(LEAST, None)),
-        Line(1, 6, Act::Lock(5, &[76, 2, 97, 8, 0])),
-    ];
-    let logs = log_of(rt.alloc(), &shared)?;
-    let table = applied(rt.alloc(), &logs, 2)?;
-    assert!(rt; table.judge(&logs, &at, 0, 0).is_none());
-    Ok(())
-}
-
-#[test]
-fn a_split_changes_the_epoch_and_bears_the_child(rt: HostRuntime) -> Result<(), Fail> {
-    let lines = [
-        Line(1, 5, Act::Open(LEAST, None)),
-        Line(1, 6, Act::Split(100, 2)),
-    ];
-    let logs = log_of(rt.alloc(), &lines)?;
-    let before = applied(rt.alloc(), &logs, 1)?;
-    let child = ask(rt.alloc(), 8, 2, 2, 5)?;
-    let unborn = Refusal::NotYet {
-        region: 2,
-        applied: None,
-        wants: Wants::Index(5),
-    };
-    assert_eq!(rt; before.judge(&logs, &child, 0, 0), Some(unborn));
-    let table = applied(rt.alloc(), &logs, 2)?;
-    assert!(rt; table.judge(&logs, &child, 0, 0).is_none());
-    let parent = ask(rt.alloc(), 8, 1, 1, 5)?;
-    let found = Epoch {
-        conf_ver: 1,
-        version: 2,
-    };
-    let other = Refusal::EpochNotMatch {
-        region: 1,
-        index: 6,
-        found: Some(found),
-    };
-    assert_eq!(rt; table.judge(&logs, &parent, 0, 0), Some(other));
-    Ok(())
-}
-
-#[test]
-fn a_read_waits_for_its_index_and_for_the_mark(rt: HostRuntime) -> Result<(), Fail> {
-    let lines = [
-        Line(1, 5, Act::Open(LEAST, None)),
-        Line(1, 6, Act::Empty),
-        Line(1, 7, Act::Empty),
-    ];
-    let logs = log_of(rt.alloc(), &lines)?;
-    let table = applied(rt.alloc(), &logs, 2)?;
-    let later = ask(rt.alloc(), 10, 1, 1, 9)?;
-    let index = Refusal::NotYet {
-        region: 1,
-        applied: Some(6),
-        wants: Wants::Index(9),
-    };
-    assert_eq!(rt; table.judge(&logs, &later, 0, 0), Some(index));
-    let now = ask(rt.alloc(), 10, 1, 1, 6)?;
-    let mark = Refusal::NotYet {
-        region: 1,
-        applied: Some(6),
-        wants: Wants::Mark { next: 2, mark: 3 },
-    };
-    assert_eq!(rt; table.judge(&logs, &now, 0, 3), Some(mark));
-    assert!(rt; table.judge(&logs, &now, 0, 2).is_none());
-    Ok(())
-}
-
-#[test]
-fn a_put_adds_a_version_and_a_remove_clears(rt: HostRuntime) -> Result<(), Fail> {
-    let lines = [
-        Line(1, 5, Act::Open(LEAST, None)),
-        Line(1, 6, Act::Put(5, 10, &RECORD)),
-        Line(1, 7, Act::Remove),
-    ];
-    let logs = log_of(rt.alloc(), &lines)?;
-    if logs.len() < 3 {
-        return Err("three entries".into());
-    }
-    let table = applied(rt.alloc(), &logs, 1)?;
-    let put = parse(rt.alloc(), &logs, 1)?;
-    let Ok(effect) = table.effect(&logs, &put) else {
-        return Err("an effect".into());
-    };
-    assert_eq!(rt; effect.index, 6);
-    assert!(rt; effect.clears.is_none());
-    assert_eq!(rt; effect.adds.len(), 1);
-    let table = applied(rt.alloc(), &logs, 2)?;
-    let remove = parse(rt.alloc(), &logs, 2)?;
-    let Ok(effect) = table.effect(&logs, &remove) else {
-        return Err("an effect".into());
-    };
-    assert!(rt; effect.clears.is_some());
-    assert_eq!(rt; effect.adds.len(), 0);
-    Ok(())
+    are_next(&table, &logs, &PARTS)
 }
