@@ -1,6 +1,7 @@
-// The same work in plain Rust, std alone: twin LOG. The log's entries are read into memory first; then
-// they are applied to regions with their default values and locks, keys and records read on the way,
-// and a value that a commit takes is read as its row's numbers and bytes. Best of five.
+// The same work in plain Rust, std alone: twin LOG [VERSIONS]. The log's entries are read into memory
+// first; then they are applied to regions with their default values and locks, keys and records read on
+// the way. With a second word the versions that an entry commits are made too: a value that a commit
+// takes is read as its row's numbers and bytes. Best of five.
 use std::collections::BTreeMap;
 use std::sync::Arc;
 use std::time::Instant;
@@ -214,6 +215,8 @@ fn cells_of(row: &[u8], schema: &[(u32, u8)]) -> Vec<Cell> {
 
 struct Table {
     id: i64,
+    tells: bool,
+    read: u64,
     schema: Vec<(u32, u8)>,
     regions: BTreeMap<u32, Kept>,
 }
@@ -227,7 +230,8 @@ impl Table {
     }
 
     fn write(&mut self, id: u32, ops: &[Op]) -> Vec<Version> {
-        let (table, schema) = (self.id, std::mem::take(&mut self.schema));
+        let (table, tells, mut read) = (self.id, self.tells, self.read);
+        let schema = std::mem::take(&mut self.schema);
         let region = self.there(id);
         let mut versions = Vec::new();
         for op in ops {
@@ -253,13 +257,17 @@ impl Table {
                     let mut at = 1;
                     let start = leb(&op.value, &mut at);
                     let ts = ts_of(rest);
+                    let short = (op.value.get(at) == Some(&b'v')).then(|| {
+                        let len = op.value[at + 1] as usize;
+                        &op.value[at + 2..at + 2 + len]
+                    });
+                    read ^= start ^ ts ^ short.map_or(0, |bytes| bytes.len() as u64);
                     match op.value[0] {
+                        _ if !tells => {}
                         b'P' => {
-                            let cells = if op.value.get(at) == Some(&b'v') {
-                                let len = op.value[at + 1] as usize;
-                                cells_of(&op.value[at + 2..at + 2 + len], &schema)
-                            } else {
-                                cells_of(&region.values[&(handle, start)], &schema)
+                            let cells = match short {
+                                Some(bytes) => cells_of(bytes, &schema),
+                                None => cells_of(&region.values[&(handle, start)], &schema),
                             };
                             versions.push(Version { handle, ts, gone: false, cells });
                         }
@@ -271,6 +279,7 @@ impl Table {
             }
         }
         self.schema = schema;
+        self.read = read;
         versions
     }
 
@@ -356,16 +365,18 @@ fn main() {
         let len = c.u32() as usize;
         entries.push(entry_of(c.take(len)));
     }
+    let tells = std::env::args().nth(2).is_some();
     let mut best = u128::MAX;
     let mut versions = 0;
     for _ in 0..5 {
         let start = Instant::now();
-        let mut table = Table { id, schema: schema.clone(), regions: BTreeMap::new() };
+        let mut table = Table { id, tells, read: 0, schema: schema.clone(), regions: BTreeMap::new() };
         versions = 0;
         for e in &entries {
             versions += table.apply(e).len();
         }
         let gone = table.regions.values().filter(|r| matches!(r, Kept::Gone(i) if *i > 0)).count();
+        std::hint::black_box(table.read);
         drop(table);
         best = best.min(start.elapsed().as_micros());
         assert!(gone < entries.len());
