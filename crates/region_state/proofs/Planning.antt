@@ -1,19 +1,21 @@
 -- Changes over the values of a region, one more.
-use Rattle.std.proofs.Common.{◌≡◌, ◌∙◌, refl, sym, ap, subst, ℕ, ℤ, Bool, true, false, cond, List, [], ◌++◌, Option, Some, None, ◌<◌, ◌≤◌, ◌+◌, length, take, get_or, map}
+use Rattle.std.proofs.Common.{◌≡◌, ◌∙◌, refl, sym, ap, subst, ℕ, ℤ, Bool, true, false, true≢false, cond, List, [], ◌∷◌, ◌++◌, Option, Some, None, ◌<◌, ◌≤◌, ◌+◌, length, take, get_or, map}
 use Rattle.std.specs.BTreeMap.{BTreeMap, get, is_at}
+use Rattle.std.specs.List.{list_all}
 use Rattle.std.specs.List.Sorted.{IsStrictlySortedBy}
 use Rattle.std.specs.Map.{lookup, keys_of}
-use Rattle.std.proofs.lemmas.List.{take_more, take_all, map-append}
+use Rattle.std.proofs.lemmas.List.{take_more, take_all, map-append, append-nil}
 use Rattle.column_block.specs.declared.column.Column.{Column}
 use Rattle.column_block.specs.declared.cell.Version.{Version}
 use Rattle.committed_log.specs.Store.{Store, value, value_cmp}
 use Rattle.committed_log.specs.declared.op.FamilyOp.{FamilyOp}
 use Rattle.committed_log.specs.declared.op.FamilyOp.TheVariants as change
+use Rattle.committed_log.proofs.Faults.{both_true}
 use Rattle.committed_log.proofs.Maps.{Rise, Rise-insert_entry, Rise-remove_entry}
 use Rattle.committed_log.proofs.Positions.{fold_push}
 use Rattle.committed_log.proofs.Sorted.{value_cmp_total}
 use Rattle.committed_log.proofs.StoreSteps.{value_put, value_taken}
-use Rattle.region_state.specs.Folding.{version_of, committed, after_one, after_all}
+use Rattle.region_state.specs.Folding.{version_of, committed, commits_nothing, after_one, after_all}
 use Rattle.region_state.specs.Standing.{seen, Stands}
 
 seen_cond : {X : Type 0} (b : Bool) (v : Option X) (o : Option (Option X)) (there : Option X) → seen (cond b (Some v) o) there ≡ cond b v (seen o there)
@@ -53,3 +55,17 @@ module _ (s : Store) (ops : List FamilyOp) (k : ℕ) (op : FamilyOp) (here : k <
 
 pub all_done : (s : Store) (ops : List FamilyOp) (k : ℕ) → length ops ≤ k → after_all s (take k ops) ≡ after_all s ops
 all_done s ops k done = ap (after_all s) (take_all k ops done)
+
+-- changes that commit nothing add no commit
+one_adds_none : (s : Store) (op : FamilyOp) → commits_nothing op ≡ true → (after_one s op).commits ≡ s.commits
+one_adds_none s (change.Value h start bytes) none = append-nil s.commits
+one_adds_none s (change.DropValue h start) none = append-nil s.commits
+one_adds_none s (change.Lock h kind start) none = append-nil s.commits
+one_adds_none s (change.Unlock h) none = append-nil s.commits
+one_adds_none s (change.Write h ts start gone short) none = absurd (true≢false (sym none))
+
+pub all_add_none : (s : Store) (ops : List FamilyOp) → list_all commits_nothing ops ≡ true → (after_all s ops).commits ≡ s.commits
+all_add_none s [] none = refl
+all_add_none s (op ∷ ops) none =
+    let both = both_true (commits_nothing op) (list_all commits_nothing ops) none in
+    all_add_none (after_one s op) ops both.1 ∙ one_adds_none s op both.0

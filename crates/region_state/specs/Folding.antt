@@ -1,5 +1,5 @@
 -- What changes do to a region's families, and the versions that they commit: as in the row store, of which the region holds the values and the locks of its handles.
-use Rattle.std.specs.Prelude.{Bool, ℕ, Some, None, List, [], ◌++◌, fold, map}
+use Rattle.std.specs.Prelude.{Bool, true, false, ℕ, Some, None, List, [], ◌++◌, fold, map}
 use Rattle.column_block.specs.declared.cell.Version.{Version}
 use Rattle.column_block.specs.declared.column.Column.{Column}
 use Rattle.committed_log.specs.Reads.{cells}
@@ -25,6 +25,13 @@ after_one s op = record (after_change 0 (record s { commits = [] }) op) { commit
 
 abbrev pub after_all : Store → List FamilyOp → Store
 after_all s ops = fold after_one s ops
+
+abbrev pub commits_nothing : FamilyOp → Bool
+commits_nothing (change.Value h start bytes) = true
+commits_nothing (change.DropValue h start) = true
+commits_nothing (change.Lock h kind start) = true
+commits_nothing (change.Unlock h) = true
+commits_nothing (change.Write h ts start gone short) = false
 
 -- a put with the cells of its value, or a delete, which has none
 abbrev pub version_of : List Column → Commit → Version

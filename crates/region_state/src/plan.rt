@@ -4,7 +4,8 @@ ghost use Rattle.std.specs.BTreeMap.{get, is_at};
 ghost use Rattle.std.specs.Option.{option_or};
 ghost use Rattle.committed_log.specs.Reads.{cells};
 ghost use Rattle.committed_log.specs.Store.{Store, value_cmp, committed_value};
-ghost use Rattle.region_state.specs.Folding.{version_of, committed, after_one, after_all};
+ghost use Rattle.region_state.specs.Folding.{version_of, committed, commits_nothing, after_one, after_all};
+ghost use Rattle.std.specs.List.{list_all};
 ghost use Rattle.region_state.specs.Standing.{seen, Stands, commit_of};
 
 use crate::changes::{ValueChanges, change_value};
@@ -47,20 +48,23 @@ fn value_at<'a>(
     }
 }
 
-// What a commit puts.
+// What a commit puts. The default family is looked at only for a put that has no short value.
 fn committed_value<'a>(
+    values: &'a Values,
+    changes: &'a ValueChanges,
+    handle: Handle,
+    start: Ts,
     gone: bool,
     short: Option<&'a OpBytes>,
-    long: Option<&'a OpBytes>,
 ) -> Option<&'a OpBytes>
-    ensures { option_copied result ≡ committed_value gone (option_copied short.entry) (option_copied long.entry) }
+    ensures { option_copied result ≡ committed_value gone (option_copied short.entry) (seen (get value_cmp changes.now (handle, start)) (get value_cmp values.now (handle, start))) }
 {
     if gone {
         return None;
     }
     match short {
         Some(bytes) => Some(bytes),
-        None => long,
+        None => value_at(values, changes, handle, start),
     }
 }
 
@@ -132,7 +136,7 @@ fn commit(
 ) -> Result<(), Memory>
     ensures { OnOk result (block.new ≡ block.old ++ version_of schema.now (commit_of handle ts start (committed_value gone (option_copied short.entry) (seen (get value_cmp changes.now (handle, start)) (get value_cmp values.now (handle, start))))) ∷ []) }
 {
-    let value = committed_value(gone, short, value_at(values, changes, handle, start));
+    let value = committed_value(values, changes, handle, start, gone, short);
     let version = version_of(alloc, handle, ts, start, value, schema)?;
     push(block, version)
 }
@@ -175,8 +179,25 @@ fn step(
     }
 }
 
-/// The versions that changes commit, in order.
-pub fn versions(
+fn commits_nothing(op: &FamilyOp) -> bool
+    ensures { result ≡ commits_nothing op.now }
+{
+    !matches!(op, FamilyOp::Write { .. })
+}
+
+fn commit_nothing(ops: &[FamilyOp]) -> bool
+    ensures { result ≡ list_all commits_nothing ops.now }
+{
+    for op in ops {
+        if !commits_nothing(op) {
+            return false;
+        }
+    }
+    true
+}
+
+// The versions that changes commit, with what each does to the default family on the way.
+fn each_version(
     alloc: Global,
     values: &Values,
     ops: &[FamilyOp],
@@ -192,4 +213,20 @@ pub fn versions(
         step(alloc, values, &mut changes, &mut block, op, schema)?;
     }
     Ok(block)
+}
+
+/// The versions that changes commit, in order. Where there is no commit among them, as in a prewrite,
+/// it takes no memory.
+pub fn versions(
+    alloc: Global,
+    values: &Values,
+    ops: &[FamilyOp],
+    schema: &Schema,
+) -> Result<Block, Memory>
+    ensures { IfOk result (λ block. (s : Store) → s.values ≡ values.now.entries → s.commits ≡ [] → block ≡ map (version_of schema.now) (after_all s ops.now).commits) }
+{
+    if commit_nothing(ops) {
+        return Ok(Block::new(alloc));
+    }
+    each_version(alloc, values, ops, schema)
 }

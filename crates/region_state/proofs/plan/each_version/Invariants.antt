@@ -2,7 +2,7 @@ use Rattle.std.proofs.Common.{◌≡◌, [], take, map}
 use Rattle.committed_log.specs.Store.{Store}
 use Rattle.region_state.specs.Folding.{version_of, after_all}
 use Rattle.region_state.specs.Standing.{Stands}
-use Rattle.region_state.proofs.plan.versions.Given as goal
+use Rattle.region_state.proofs.plan.each_version.Given as goal
 
 abbrev pub invariant-loop-op : goal.invariant-loop-op
 invariant-loop-op l = record {
