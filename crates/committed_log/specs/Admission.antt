@@ -5,6 +5,7 @@ use Rattle.std.specs.Map.{values_of}
 use Rattle.column_block.specs.Cells.{cells_of}
 use Rattle.column_block.specs.declared.column.Column.{Column}
 use Rattle.flash_types.specs.Ranges.{holds, is_below}
+pub use Rattle.flash_types.specs.Ranges.{touch}
 use Rattle.flash_types.specs.declared.range.HandleRange.{HandleRange}
 use Rattle.log_codec.specs.declared.entry.Entry.{Entry}
 use Rattle.log_codec.specs.declared.entry.Body.{Body}
@@ -13,7 +14,7 @@ use Rattle.log_codec.specs.declared.entry.Op.{Op}
 use Rattle.row_codec.specs.Rows.{row_at}
 use Rattle.row_decode.specs.Known.{unknown_column}
 use Rattle.committed_log.specs.Changes.{change_of, BadKey, BadRecord}
-use Rattle.committed_log.specs.Regions.{Region, Unborn, Live, Prepared, Gone, region, range_of, index_of, ends_at, makes_region}
+use Rattle.committed_log.specs.Regions.{Region, Unborn, Live, Prepared, Gone, region, range_of, index_of, makes_region}
 use Rattle.committed_log.specs.Store.{Store, last_commit, is_repeated, committed_value, value, after_op, cleared}
 use Rattle.committed_log.specs.declared.op.LastCommit.{LastCommit}
 use Rattle.committed_log.specs.declared.op.FamilyOp.{FamilyOp}
@@ -96,9 +97,6 @@ abbrev pub birth_fault : List (ℕ × Region) → HandleRange → Option Unlawfu
 birth_fault regions range =
     if is_below range.low range.high then option_map unlawful.Range (least_taken range (values_of regions))
     else Some (unlawful.Range range.low)
-
-abbrev pub touch : HandleRange → HandleRange → Bool
-touch a b = ends_at a b.low || ends_at b a.low
 
 -- the two ranges of a merge touch; the fault names the source's low end
 abbrev pub merge_fault : List (ℕ × Region) → ℕ → ℕ → Option Unlawful

@@ -1,10 +1,11 @@
 -- Regions, as TiKV splits a table into them: each is a range of handles with a Raft log of its own. The epoch's version rises where the range changes, so that a reader sees that its idea of the range is old.
 use Rattle.std.specs.Prelude.{ℕ, ◌+◌, max, ℤ, Bool, true, false, Option, Some, None, List, [], ◌∷◌, ◌==◌, if◌then◌else◌, unwrap_or}
-use Rattle.std.specs.Ordering.{nat_cmp, int_eq}
+use Rattle.std.specs.Ordering.{nat_cmp}
 use Rattle.std.specs.BTreeMap.{insert_entry, is_at}
 use Rattle.std.specs.Map.{lookup}
 use Rattle.std.specs.List.{list_any}
 use Rattle.flash_types.specs.declared.range.HandleRange.{HandleRange}
+pub use Rattle.flash_types.specs.Ranges.{ends_at, joined}
 use Rattle.flash_types.specs.declared.Epoch.{Epoch}
 use Rattle.log_codec.specs.declared.entry.Entry.{Entry}
 use Rattle.log_codec.specs.declared.entry.Body.{Body}
@@ -60,13 +61,6 @@ lower_part d at index = record { range = record { low = d.range.low; high = Some
 
 abbrev pub upper_part : Descriptor → ℤ → Descriptor
 upper_part d at = record { range = record { low = at; high = d.range.high }; epoch = raised d.epoch 0 1; index = 5 }
-
-abbrev pub ends_at : HandleRange → ℤ → Bool
-ends_at range h = elim range.high [ None ↦ false | Some high ↦ int_eq high h ]
-
--- two ranges that touch, as one
-abbrev pub joined : HandleRange → HandleRange → HandleRange
-joined a b = if ends_at a b.low then record { low = a.low; high = b.high } else record { low = b.low; high = a.high }
 
 -- a region into which the source s was merged
 abbrev pub merged : Descriptor → Descriptor → ℕ → Descriptor

@@ -49,3 +49,18 @@ fn a_range_has_its_low_end_and_not_its_high_end(rt: HostRuntime) {
     };
     assert!(rt; range.holds(-1) && range.holds(6) && !range.holds(7) && !range.holds(-2));
 }
+
+#[test]
+fn ranges_are_joined_parted_and_cut(rt: HostRuntime) {
+    let low = HandleRange {
+        low: -1,
+        high: Some(7),
+    };
+    let high = HandleRange { low: 7, high: None };
+    assert!(rt; high.touches(&low) && low.ends_at(7) && !high.meets(&low));
+    let both = high.joined(&low);
+    assert!(rt; both.low == -1 && both.high.is_none());
+    assert!(rt; both.below(7) == low && both.starting_at(7) == high);
+    assert!(rt; both.common(&low) == low && low.common(&high).is_empty());
+    assert!(rt; HandleRange::all().holds(i64::MIN) && !HandleRange::all().is_empty());
+}

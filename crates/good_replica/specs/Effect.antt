@@ -1,7 +1,8 @@
 -- What applying an entry adds to a replica's files and clears there.
-use Rattle.std.specs.Prelude.{ℕ, suc, ℤ, Bool, false, Option, Some, None, List, [], ◌∷◌, ◌++◌, ◌==◌, filter, map, slice_get, int_le, if◌then◌else◌}
+use Rattle.std.specs.Prelude.{ℕ, suc, ℤ, Bool, false, Option, Some, None, List, [], ◌∷◌, ◌++◌, ◌==◌, filter, map, slice_get}
 use Rattle.column_block.specs.declared.cell.Version.{Version}
 use Rattle.flash_types.specs.Ranges.{holds}
+pub use Rattle.flash_types.specs.Ranges.{common, lower_end}
 use Rattle.flash_types.specs.declared.range.HandleRange.{HandleRange}
 use Rattle.log_codec.specs.declared.entry.Body.{Body}
 use Rattle.log_codec.specs.declared.entry.Body.TheVariants as body
@@ -29,15 +30,6 @@ holds_some None h = false
 holds_some (Some range) h = holds range h
 
 -- ---- files, clipped to a segment
-
-abbrev pub lower_end : Option ℤ → Option ℤ → Option ℤ
-lower_end None b = b
-lower_end (Some a) None = Some a
-lower_end (Some a) (Some b) = Some (if int_le a b then a else b)
-
--- the handles that both ranges hold
-abbrev pub common : HandleRange → HandleRange → HandleRange
-common a b = record { low = if int_le a.low b.low then b.low else a.low; high = lower_end a.high b.high }
 
 -- what a file says of the handles of a range
 abbrev pub clipped : HandleRange → DeltaFile → DeltaFile

@@ -1,7 +1,8 @@
 -- When the files of a replica are right, for the entries that are applied and for those that a crash may have left in the files.
-use Rattle.std.specs.Prelude.{◌≡◌, ◌⊎◌, ℕ, ◌<◌, ◌≤◌, max, ℤ, Bool, true, false, Some, None, List, [], ◌∷◌, length, drop, IsTrue, negsuc, ◌^◌, ◌-◌}
+use Rattle.std.specs.Prelude.{◌≡◌, ◌⊎◌, ℕ, ◌<◌, ◌≤◌, max, ℤ, Bool, true, false, Some, None, List, [], ◌∷◌, length, drop, IsTrue}
 use Rattle.column_block.specs.declared.cell.Version.{Version}
 use Rattle.flash_types.specs.Ranges.{holds, is_below}
+pub use Rattle.flash_types.specs.Ranges.{least_handle}
 use Rattle.committed_log.specs.Log.{Log}
 use Rattle.committed_log.specs.ReadIndex.{clears_at}
 use Rattle.good_replica.specs.Front.{front, IsUncleared}
@@ -52,9 +53,6 @@ IsGoodSegment log A m safe s = (h : ℤ) → holds s.range h ≡ true → IsGood
 abbrev pub EachGood : Log → (ℕ → Bool) → ℕ → ℕ → List Segment → Type 0
 EachGood log A m safe [] = Unit {0}
 EachGood log A m safe (s ∷ ss) = IsGoodSegment log A m safe s × EachGood log A m safe ss
-
-abbrev pub least_handle : ℤ
-least_handle = negsuc (2 ^ 63 - 1)
 
 -- The segments cover the handles from `low` on: the first begins there, each of the others where the one before it ends, none is empty, and the last has no end.
 abbrev pub CoversFrom : ℤ → List Segment → Type 0

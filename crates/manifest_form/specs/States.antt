@@ -1,8 +1,9 @@
 -- What edits do to a state, and which states a store may have.
-use Rattle.std.specs.Prelude.{◌≡◌, ℕ, ℤ, negsuc, ◌-◌, ◌^◌, Bool, true, false, ◌&&◌, not, nat_lt, nat_eq, int_lt, if◌then◌else◌, List, [], ◌∷◌, replicate, Option, Some, None}
+use Rattle.std.specs.Prelude.{◌≡◌, ℕ, ℤ, Bool, true, false, ◌&&◌, not, nat_lt, nat_eq, int_lt, if◌then◌else◌, List, [], ◌∷◌, replicate, Option, Some, None}
 use Rattle.std.specs.Ordering.{int_eq}
 use Rattle.std.specs.List.{filter, list_all, list_any}
 use Rattle.flash_types.specs.declared.range.HandleRange.{HandleRange}
+pub use Rattle.flash_types.specs.Ranges.{least_handle}
 use Rattle.manifest_form.specs.declared.state.StoredFile.{StoredFile}
 use Rattle.manifest_form.specs.declared.state.StoredFile.TheVariants.{Tiny, DeleteRange}
 use Rattle.manifest_form.specs.declared.state.StoredSegment.{StoredSegment}
@@ -65,9 +66,6 @@ segment_below next segment = nat_lt segment.id next && (name_below next segment.
 -- all numbers in use are below this one
 abbrev pub all_below : ℕ → ℕ → State → Bool
 all_below next file s = nat_lt file next && (name_below next s.regions && list_all (segment_below next) s.segments)
-
-abbrev pub least_handle : ℤ
-least_handle = negsuc (2 ^ 63 - 1)
 
 -- the segments hold every handle once, and all numbers, that of the manifest's file too, are below Next
 abbrev pub is_formed : ℕ → State → Bool
