@@ -64,6 +64,7 @@ fn faulted<T: Drop>(faults: &mut u64, answer: io::Result<T>) -> Result<T, DiskFa
 fn counted(faults: &mut u64, fault: DiskFault) -> DiskFault
     ensures fault { result ≡ fault }
     ensures count { (faults.old ≤ faults.new) × (fault ≡ DiskFault.Failed → Rose faults.old faults.new) }
+    ensures memory { fault ≡ DiskFault.Memory → faults.new ≡ faults.old }
 {
     if fault == DiskFault::Failed {
         *faults = faults.saturating_add(1);
@@ -99,6 +100,10 @@ impl<R: Files<File = File> + AllocGlobal + Clone + Drop> Disk for HostDisk<R> {
     ghost leaves_files = { λ _ tells. tells };
 
     ghost told = { λ _ _ left. left };
+
+    ghost grips_tell = { λ tells. tells };
+
+    ghost tells_grips = { λ tells. tells };
 
     fn create(&mut self, file: FileId, bytes: &[u8]) -> Result<(), DiskFault> {
         let answer = self.directory.create(file, bytes);

@@ -1,10 +1,12 @@
 -- Why a disk's call may answer that it failed.
-use Rattle.std.specs.Prelude.{ℕ, ◌≤◌, Result, IsErrOf}
+use Rattle.std.specs.Prelude.{◌≡◌, ℕ, ◌≤◌, Result, OnOk, IsErrOf}
 use Rattle.flash_io.specs.Faults.{Rose}
 use Rattle.flash_io.specs.declared.fault.DiskFault.{DiskFault}
-use Rattle.flash_io.specs.declared.fault.DiskFault.TheVariants.{Failed}
+use Rattle.flash_io.specs.declared.fault.DiskFault.TheVariants.{Failed, Memory}
 
--- the count doesn't fall, and `Failed` comes only where it rose
+-- the count doesn't fall, `Failed` comes only where it rose, and at any other answer it is as it was
 pub record HasDiskCause {T : Type 0} (before now : ℕ) (result : Result T DiskFault) : Type 0 where
   pub later : before ≤ now
   pub failed : IsErrOf result Failed → Rose before now
+  pub quiet : OnOk result (now ≡ before)
+  pub memory : IsErrOf result Memory → now ≡ before

@@ -22,8 +22,8 @@ pub type FileId = u32;
 /// before, or hold any bytes up to the given length; one that was removed may be back as it was.
 /// After a sync a crash leaves what a read gives.
 ///
-/// Any call may answer `Failed`, and then the count of faults rose. `Memory` leaves the disk as it
-/// was. No call changes another file, as it reads or in an image.
+/// Any call may answer `Failed`, and then the count of faults rose; at any other answer it is as it
+/// was. `Memory` leaves the disk as it was. No call changes another file, as it reads or in an image.
 pub trait Disk: Drop {
     type Reader: Reader;
 
@@ -42,7 +42,8 @@ pub trait Disk: Drop {
     /// What a crash at some moment from that one on might have left.
     ghost left_since: { Self → ℕ → Image → Type 0 };
 
-    /// How often a call has failed. It never falls, and stops at the last value of a `u64`.
+    /// How often a call has failed: it rises where the answer is `Failed`, and there alone. It never
+    /// falls, and stops at the last value of a `u64`.
     ghost fault_count: { Self → ℕ };
 
     /// No call is to fail, where that is told.
@@ -111,6 +112,11 @@ pub trait Disk: Drop {
 
     /// After it a crash leaves of this file what a read gives. After `Failed` the file reads as
     /// before, and no image is new.
+    ///
+    /// What is promised is promised of one file: nothing says in which order two files that were
+    /// changed reach the device. So whoever makes several files creates and syncs each before the
+    /// next is created, and never creates them all first. A crash in between then leaves at most
+    /// one new file that isn't as it was given, and all others as they read.
     fn sync(&mut self, file: FileId) -> Result<(), Failed>
         requires there { tells → IsThere (files self.old) file }
         ensures durable { OnOk result (SyncedTo file (files self.old) (may_leave self.new)) }
@@ -188,4 +194,10 @@ pub trait Disk: Drop {
 
     /// What a crash may leave is known only of a disk that tells its content.
     ghost told: { (disk : Self) (c : Image) → may_leave disk c → tells };
+
+    /// A disk that tells its content has grips that tell theirs.
+    ghost grips_tell: { tells → Self.Reader.Grip.tells };
+
+    /// Grips tell their bytes only of a disk that tells its content.
+    ghost tells_grips: { Self.Reader.Grip.tells → tells };
 }

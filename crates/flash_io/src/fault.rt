@@ -10,7 +10,7 @@ use std::alloc::{AllocError, AllocFailed};
 pub enum DiskFault {
     /// The device failed, and the count of faults rose.
     Failed,
-    /// There wasn't memory. The device is unchanged.
+    /// There wasn't memory. The device and its count of faults are unchanged.
     Memory,
 }
 

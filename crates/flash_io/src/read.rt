@@ -1,6 +1,7 @@
 // Reading to the end, up to a limit.
 ghost use Rattle.std.specs.Prelude.{◌≡◌, ◌≤◌, ◌<◌, ◌++◌, length, OnOk, OnErr, IsErrOf};
 ghost use Rattle.flash_io.specs.Faults.{Rose};
+ghost use Rattle.flash_io.specs.IntoFaults.{HasIntoCause};
 ghost use Rattle.flash_io.specs.Streams.{ReadsAll, ReadsPast, ReadsWithin};
 ghost use Rattle.flash_io.specs.declared.read.IntoError.TheVariants as errors;
 
@@ -47,7 +48,7 @@ pub fn read_to_limit<S: Source>(
     ensures failed { IsErrOf result IntoError.Failed → Rose (S.fault_count source.old) (S.fault_count source.new) × ReadsWithin limit (S.left source.old) (S.left source.new) }
     ensures memory { IsErrOf result IntoError.Memory → ReadsWithin limit (S.left source.old) (S.left source.new) }
     ensures kept { OnErr result (into.new.items ≡ into.old.items) }
-    ensures later { S.fault_count source.old ≤ S.fault_count source.new }
+    ensures cause { HasIntoCause (S.fault_count source.old) (S.fault_count source.new) result }
 {
     let start = into.len();
     let mut piece = vec![in *into.allocator(); 0u8; PIECE]?;
@@ -76,7 +77,7 @@ fn fill<S: Source>(
     ensures failed { IsErrOf result IntoError.Failed → Rose (S.fault_count source.old) (S.fault_count source.new) × ReadsWithin limit (S.left source.old) (S.left source.new) }
     ensures memory { IsErrOf result IntoError.Memory → ReadsWithin limit (S.left source.old) (S.left source.new) }
     ensures front { (bytes : _) × (into.new.items ≡ into.old.items ++ bytes) }
-    ensures later { S.fault_count source.old ≤ S.fault_count source.new }
+    ensures cause { HasIntoCause (S.fault_count source.old) (S.fault_count source.new) result }
 {
     let mut taken = 0u64;
     loop {

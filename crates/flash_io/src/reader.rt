@@ -18,7 +18,8 @@ pub trait Gripped: Drop {
 pub trait Reader: Drop {
     type Grip: Gripped;
 
-    /// How often a read has failed. It never falls, and stops at the last value of a `u64`.
+    /// How often a read has failed: it rises where the answer is `Failed`, and there alone. It
+    /// never falls, and stops at the last value of a `u64`.
     ghost fault_count: { Self → ℕ };
 
     /// Appends the file's bytes from `at` on, at most `len`, and answers how many. They are fewer

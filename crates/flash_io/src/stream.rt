@@ -13,7 +13,8 @@ pub trait Source {
     /// The bytes that reads will give from here on, where the source tells them.
     ghost left: { Self → Option (List ℕ) };
 
-    /// How often a read has failed. It never falls, and stops at the last value of a `u64`.
+    /// How often a read has failed: it rises where the answer is `Failed`, and there alone. It
+    /// never falls, and stops at the last value of a `u64`.
     ghost fault_count: { Self → ℕ };
 
     /// Reads some bytes to the front of the buffer, and answers how many. It reads none only at
@@ -29,7 +30,8 @@ pub trait Sink {
     /// The bytes that were written, where the sink tells them.
     ghost contents: { Self → Option (List ℕ) };
 
-    /// How often a write has failed. It never falls, and stops at the last value of a `u64`.
+    /// How often a write has failed: it rises where the answer is `Failed`, and there alone. It
+    /// never falls, and stops at the last value of a `u64`.
     ghost fault_count: { Self → ℕ };
 
     /// Takes bytes from the front, at least one unless there is none, and answers how many.

@@ -101,6 +101,10 @@ impl Disk for MemDisk {
 
     ghost told = { λ disk c left. tt };
 
+    ghost grips_tell = { λ tells. tt };
+
+    ghost tells_grips = { λ tells. tt };
+
     fn create(&mut self, file: FileId, bytes: &[u8]) -> Result<(), DiskFault> {
         if fails(&self.failing, &mut self.calls, &mut self.faults) {
             return Err(DiskFault::Failed);

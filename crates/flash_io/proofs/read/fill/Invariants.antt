@@ -1,4 +1,4 @@
-use Rattle.std.proofs.Common.{◌-◌, ◌≤◌, ◌<◌, length}
+use Rattle.std.proofs.Common.{◌-◌, ◌≤◌, ◌<◌, ◌≡◌, length}
 use Rattle.flash_io.proofs.Reading.{ReadSoFar}
 use Rattle.flash_io.proofs.read.fill.Given as goal
 
@@ -9,7 +9,7 @@ invariant-loop-count g l =
     record {
       room : 0 < length l.piece.items;
       within : l.taken ≤ l.limit;
-      later : faults l.fn.source ≤ faults l.source;
+      quiet : faults l.source ≡ faults l.fn.source;
       read : ReadSoFar l.taken (left l.fn.source) (left l.source) l.fn.into.items l.into.items;
     }
 

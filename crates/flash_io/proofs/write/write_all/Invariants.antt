@@ -1,4 +1,4 @@
-use Rattle.std.proofs.Common.{length, take, ◌-◌, ◌≤◌}
+use Rattle.std.proofs.Common.{length, take, ◌-◌, ◌≤◌, ◌≡◌}
 use Rattle.std.specs.Io.KnownBytes.{Appends}
 use Rattle.flash_io.proofs.write.write_all.Given as goal
 
@@ -8,7 +8,7 @@ invariant-loop-at g l =
     let faults = g.W.Sink.fault_count in
     record {
       within : l.at ≤ length l.bytes;
-      later : faults l.fn.sink ≤ faults l.sink;
+      quiet : faults l.sink ≡ faults l.fn.sink;
       taken : Appends (contents l.fn.sink) (contents l.sink) (take l.at l.bytes);
     }
 
