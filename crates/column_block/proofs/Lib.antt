@@ -1,2 +1,5 @@
+mod Examples
+mod Kept
 mod Lists
+pub mod Ordered
 pub mod Rising

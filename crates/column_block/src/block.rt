@@ -1,9 +1,13 @@
 // Blocks of versions.
 ghost use Rattle.std.specs.Prelude.{◌≡◌, ◌<◌, ◌≤◌, ℕ, [], ◌∷◌, ◌++◌, length, map, slice_get, slice_index, slice_range, EachIndex, IfOk, OnOk, IfErr, OnErr, Some};
+ghost use Rattle.std.specs.Prelude.{filter};
 ghost use Rattle.std.specs.Arc.{arc_value};
+ghost use Rattle.std.specs.List.{list_any};
+ghost use Rattle.column_block.specs.Handles.{lies_in};
 
 use crate::Memory;
 use crate::cell::Version;
+use crate::handles::lies_in;
 use std::alloc::Global;
 use std::marker::Model;
 use std::sync::Arc;
@@ -84,6 +88,35 @@ impl Block {
             versions,
             alloc: self.alloc,
         })
+    }
+
+    /// The versions whose handles lie from `low` up to and without `high`, where there is one, in
+    /// the order in which they stand here. They are shared, and the block may stand in any order.
+    pub fn kept(&self, low: i64, high: Option<i64>) -> Result<Block, Memory>
+        ensures { IfOk result (λ part. part ≡ filter (lies_in low high) self.now) }
+    {
+        let mut versions = Vec::new(self.alloc);
+        for one in self.versions.as_slice() {
+            if lies_in(low, high, one) {
+                share(one, &mut versions)?;
+            }
+        }
+        Ok(Block {
+            versions,
+            alloc: self.alloc,
+        })
+    }
+
+    /// Whether a version's handle lies from `low` up to and without `high`, where there is one.
+    pub fn has_in(&self, low: i64, high: Option<i64>) -> bool
+        ensures { result ≡ list_any (lies_in low high) self.now }
+    {
+        for one in self.versions.as_slice() {
+            if lies_in(low, high, one) {
+                return true;
+            }
+        }
+        false
     }
 
     /// Adds the versions of another block at the end. After `Err` the block is as before.

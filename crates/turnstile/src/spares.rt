@@ -1,5 +1,5 @@
 //! The numbers of a seat, as an array that is true at each of them.
-ghost use Rattle.std.specs.Prelude.{◌≡◌, ℕ, ◌<◌, ◌≤◌, true, false, slice_index_or, IfSome, IfNone};
+ghost use Rattle.std.specs.Prelude.{◌≡◌, ℕ, ◌<◌, ◌≤◌, true, false, slice_index_or, IfSome, IfNone, set};
 ghost use Rattle.turnstile.specs.Numbers.{bit, total, first_true, either_true, all_but_first};
 
 // All numbers below `seats` but 0.
@@ -25,6 +25,16 @@ pub(crate) fn first_spare(spare: &[bool; 16]) -> Option<u32>
         }
     }
     None
+}
+
+// All that are spare, but this one.
+pub(crate) fn without(spare: &[bool; 16], number: u32) -> [bool; 16]
+    requires { number < 16 }
+    ensures { result ≡ set spare.now number false }
+{
+    let mut left = *spare;
+    left[number as usize] = false;
+    left
 }
 
 pub(crate) fn merged(mine: &[bool; 16], theirs: &[bool; 16]) -> [bool; 16]

@@ -1,5 +1,5 @@
-// The happy path of each call that allocates, and what a schema refuses.
-use crate::{Block, Cell, CellBytes, Cells, Column, Kind, Schema, SchemaError, Version};
+// Blocks and schemas: the happy path of each call that allocates, and what a schema refuses.
+use column_block::{Block, Cell, CellBytes, Cells, Column, Kind, Schema, SchemaError, Version};
 use std::alloc::Global;
 use std::test::Fail;
 
@@ -41,6 +41,19 @@ fn blocks_share_their_versions(rt: HostRuntime) -> Result<(), Fail> {
     assert_eq!(rt; block.handle(1), 6);
     assert_eq!(rt; block.handle(2), 6);
     assert_eq!(rt; block.handle(3), 5);
+    Ok(())
+}
+
+#[test]
+fn versions_within_a_range_are_kept(rt: HostRuntime) -> Result<(), Fail> {
+    let mut block = Block::new(rt.alloc());
+    block.push(version(rt.alloc(), 9)).map_err(|_| "memory")?;
+    block.push(version(rt.alloc(), -2)).map_err(|_| "memory")?;
+    let part = block.kept(-2, Some(9))?;
+    assert_eq!(rt; part.len(), 1);
+    assert_eq!(rt; part.at(0).handle, -2);
+    assert!(rt; block.has_in(9, None));
+    assert!(rt; !block.has_in(10, None));
     Ok(())
 }
 

@@ -2,11 +2,10 @@
 ghost use Rattle.std.specs.Prelude.{◌≡◌, ℕ, ◌+◌, ◌≤◌, ◌<◌, ◌^◌, None, All, vec_len, vec_capacity};
 ghost use Rattle.turnstile.specs.Seats.{IsIdle, parting};
 
-use crate::held::Held;
-use crate::turn::{Seat, Turn};
 use std::sync::Wait;
 use std::test::Fail;
 use std::thread::{Threads, for_each_mut};
+use turnstile::{Held, Seat, Turn};
 
 /// A number that grows, with generations of which the older ones go.
 #[derive(Drop)]
@@ -120,7 +119,7 @@ fn work<R: Wait>(rt: &R, turn: &Turn<Tally>, seat: &mut Seat<Tally>)
     ensures idle { IsIdle turn.now.place seat.new }
     ensures parts { seat.new.parts ≡ seat.old.parts }
 {
-    for _ in 0..2000u32 {
+    for _ in 0..400u32 {
         work_once(rt, turn, seat);
     }
 }
@@ -144,6 +143,20 @@ fn hire(turn: &Turn<Tally>, seat: &mut Seat<Tally>, team: &mut Vec<Seat<Tally>>)
     }
 }
 
+// Fifteen more.
+fn hire_all(turn: &Turn<Tally>, seat: &mut Seat<Tally>, team: &mut Vec<Seat<Tally>>)
+    requires own { seat.old.place ≡ turn.now.place }
+    requires spare { seat.old.parts ≡ 16 }
+    requires room { (vec_len team.old ≡ 0) × (16 ≤ vec_capacity team.old) }
+    ensures seat { (seat.new.place ≡ seat.old.place) × (seat.new.held ≡ seat.old.held) × (seat.new.parts ≡ 1) }
+    ensures length { vec_len team.new ≡ 15 }
+    ensures team { All (λ s. IsIdle turn.now.place s × (s.parts ≡ 1)) team.new.items }
+{
+    for _ in 0..15u32 {
+        hire(turn, seat, team);
+    }
+}
+
 // Each seat of the team is joined.
 fn dismiss_all(turn: &Turn<Tally>, seat: &mut Seat<Tally>, mut team: Vec<Seat<Tally>>)
     requires own { seat.old.place ≡ turn.now.place }
@@ -163,21 +176,20 @@ fn work_all<R: Threads + Wait + Sync>(rt: &R, turn: &Turn<Tally>, team: &mut [Se
     for_each_mut(
         rt,
         team,
-        3,
+        15,
         &|_, seat: &mut Seat<Tally>| work(rt, turn, seat),
     );
 }
 
+// As many seats as a turn can have, each in a thread of its own: no take is lost.
 #[test]
-fn threads_take_turns(rt: HostRuntime) -> Result<(), Fail> {
-    let mut team = Vec::with_capacity(rt.alloc(), 3)?;
-    let (turn, mut first) = match Turn::new(rt.alloc(), new_tally(5, 0), 4) {
+fn sixteen_seats_take_turns(rt: HostRuntime) -> Result<(), Fail> {
+    let mut team = Vec::with_capacity(rt.alloc(), 16)?;
+    let (turn, mut first) = match Turn::new(rt.alloc(), new_tally(5, 0), 16) {
         Ok(made) => made,
         Err(_) => panic!(rt; "memory"),
     };
-    hire(&turn, &mut first, &mut team);
-    hire(&turn, &mut first, &mut team);
-    hire(&turn, &mut first, &mut team);
+    hire_all(&turn, &mut first, &mut team);
     work_all(&rt, &turn, team.as_mut_slice());
     dismiss_all(&turn, &mut first, team);
     assert_eq!(rt; turn.close(first).count, 6005);
