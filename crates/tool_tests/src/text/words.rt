@@ -33,33 +33,10 @@ fn the_words_of_the_commands(rt: HostRuntime) -> Result<(), Fail> {
     reads(&rt, &["show", "18446744073709551615"], Some(most))
 }
 
-const OTHERS: [&[&str]; 20] = [
-    &[],
-    &["show", "007"],
-    &["show", ""],
-    &["show", "+1"],
-    &["show", "-1"],
-    &["show", " 1"],
-    &["show", "1 "],
-    &["show", "0x1"],
-    &["show", "18446744073709551616"],
-    &["show"],
-    &["Check"],
-    &["check "],
-    &[""],
-    &["--help"],
-    &["replay"],
-    &["gen"],
-    &["check", "check"],
-    &["check", "1"],
-    &["show", "1", "1"],
-    &["replay", "--settle"],
-];
-
 #[test]
-fn other_words(rt: HostRuntime) -> Result<(), Fail> {
-    for texts in OTHERS {
-        reads(&rt, texts, None)?;
-    }
-    Ok(())
+fn words_with_spaces_and_empty_ones_are_none(rt: HostRuntime) -> Result<(), Fail> {
+    reads(&rt, &["show", ""], None)?;
+    reads(&rt, &["show", " 1"], None)?;
+    reads(&rt, &["check "], None)?;
+    reads(&rt, &[""], None)
 }
