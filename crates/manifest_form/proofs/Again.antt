@@ -17,7 +17,7 @@ use Rattle.manifest_form.specs.declared.state.StoredFile.{StoredFile}
 use Rattle.manifest_form.specs.declared.state.StoredFile.TheVariants.{Tiny, DeleteRange}
 use Rattle.manifest_form.specs.declared.state.StoredSegment.{StoredSegment}
 use Rattle.manifest_form.specs.declared.state.Edit.{Edit}
-use Rattle.manifest_form.specs.declared.state.Edit.TheVariants.{Next, Segment, Drop, High, SafePoint, Regions}
+use Rattle.manifest_form.specs.declared.state.Edit.TheVariants.{Next, Segment, Drop, High, SafePoint, Regions, Count}
 use Rattle.manifest_form.specs.Fields as F
 use Rattle.manifest_form.specs.Edits as E
 use Rattle.manifest_form.specs.Spelling as S
@@ -120,16 +120,17 @@ segment_again end s rest fits =
 -- ---- edits
 
 edit_again : (end : ℕ) (e : Edit) (rest : List ℕ) → EditFits e → E.edit_at end (S.edit e ++ rest) ≡ Ok (e, rest)
-unfolding E.edit_at S.edit E.next_at E.put_at E.drop_at E.mark_at E.point_at E.regions_at
-edit_again end (Next file) rest fits = rw (byte_again 1 6 _ end 1 (to_be_bytes w32 file ++ rest) (omega arith) (omega arith), u32_again _ file rest fits) refl
-edit_again end (Segment s) rest fits = rw (byte_again 1 6 _ end 2 (S.segment s ++ rest) (omega arith) (omega arith), segment_again end s rest fits) refl
-edit_again end (Drop id) rest fits = rw (byte_again 1 6 _ end 3 (to_be_bytes w32 id ++ rest) (omega arith) (omega arith), u32_again _ id rest fits) refl
+unfolding E.edit_at S.edit E.next_at E.put_at E.drop_at E.mark_at E.point_at E.regions_at E.count_at
+edit_again end (Next file) rest fits = rw (byte_again 1 7 _ end 1 (to_be_bytes w32 file ++ rest) (omega arith) (omega arith), u32_again _ file rest fits) refl
+edit_again end (Segment s) rest fits = rw (byte_again 1 7 _ end 2 (S.segment s ++ rest) (omega arith) (omega arith), segment_again end s rest fits) refl
+edit_again end (Drop id) rest fits = rw (byte_again 1 7 _ end 3 (to_be_bytes w32 id ++ rest) (omega arith) (omega arith), u32_again _ id rest fits) refl
 edit_again end (High entries chain) rest fits =
     let parts : (to_be_bytes w64 entries ++ chain) ++ rest ≡ to_be_bytes w64 entries ++ (chain ++ rest) = append_assoc (to_be_bytes w64 entries) chain rest in
     ap (λ (xs : List ℕ). E.edit_at end (4 ∷ xs)) parts
-    ∙ rw (byte_again 1 6 _ end 4 (to_be_bytes w64 entries ++ (chain ++ rest)) (omega arith) (omega arith), u64_again _ entries (chain ++ rest) fits.0, bytes_again end 32 chain rest fits.1) refl
-edit_again end (SafePoint ts) rest fits = rw (byte_again 1 6 _ end 5 (to_be_bytes w64 ts ++ rest) (omega arith) (omega arith), u64_again _ ts rest fits) refl
-edit_again end (Regions file) rest fits = rw (byte_again 1 6 _ end 6 (to_be_bytes w32 file ++ rest) (omega arith) (omega arith), u32_again _ file rest fits) refl
+    ∙ rw (byte_again 1 7 _ end 4 (to_be_bytes w64 entries ++ (chain ++ rest)) (omega arith) (omega arith), u64_again _ entries (chain ++ rest) fits.0, bytes_again end 32 chain rest fits.1) refl
+edit_again end (SafePoint ts) rest fits = rw (byte_again 1 7 _ end 5 (to_be_bytes w64 ts ++ rest) (omega arith) (omega arith), u64_again _ ts rest fits) refl
+edit_again end (Regions file) rest fits = rw (byte_again 1 7 _ end 6 (to_be_bytes w32 file ++ rest) (omega arith) (omega arith), u32_again _ file rest fits) refl
+edit_again end (Count entries) rest fits = rw (byte_again 1 7 _ end 7 (to_be_bytes w64 entries ++ rest) (omega arith) (omega arith), u64_again _ entries rest fits) refl
 
 edit_is_some : (e : Edit) (rest : List ℕ) → S.edit e ++ rest ≡ [] → ⊥
 unfolding S.edit
@@ -139,6 +140,7 @@ edit_is_some (Drop id) rest e = absurd (cc (e))
 edit_is_some (High entries chain) rest e = absurd (cc (e))
 edit_is_some (SafePoint ts) rest e = absurd (cc (e))
 edit_is_some (Regions file) rest e = absurd (cc (e))
+edit_is_some (Count entries) rest e = absurd (cc (e))
 
 one_read : (most end : ℕ) (bytes : List ℕ) (e : Edit) (rest : List ℕ) (es : List Edit) → (bytes ≡ [] → ⊥) → E.edit_at end bytes ≡ Ok (e, rest) → E.some_edits most end rest ≡ Ok es → E.some_edits (suc most) end bytes ≡ Ok (e ∷ es)
 unfolding E.some_edits

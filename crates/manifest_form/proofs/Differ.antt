@@ -8,7 +8,7 @@ use Rattle.manifest_form.specs.declared.fault.Fault.TheVariants.{At}
 use Rattle.manifest_form.specs.declared.state.StoredSegment.{StoredSegment}
 use Rattle.manifest_form.specs.declared.state.State.{State}
 use Rattle.manifest_form.specs.declared.state.Edit.{Edit}
-use Rattle.manifest_form.specs.declared.state.Edit.TheVariants.{Next, Segment, Drop, High, SafePoint, Regions}
+use Rattle.manifest_form.specs.declared.state.Edit.TheVariants.{Next, Segment, Drop, High, SafePoint, Regions, Count}
 use Rattle.manifest_form.specs.Fields.{here}
 use Rattle.manifest_form.specs.Edits.{edits_of}
 use Rattle.manifest_form.specs.States.{placed, without, done, all_done, nothing, is_high, is_safe_point, is_formed, changed, formed, after_record}
@@ -73,6 +73,7 @@ done_differ s (Drop id) differ = without_differ id s.segments differ
 done_differ s (High entries chain) differ = differ
 done_differ s (SafePoint ts) differ = differ
 done_differ s (Regions file) differ = differ
+done_differ s (Count entries) differ = differ
 
 pub all_done_differ : (s : State) (edits : List Edit) → IdsDiffer s.segments → IdsDiffer (all_done s edits).segments
 all_done_differ s [] differ = differ

@@ -1,9 +1,8 @@
 -- The form of a state by its count of faults and its greatest numbers.
-use Rattle.std.proofs.Common.{◌≡◌, ◌≢◌, ◌∙◌, refl, sym, ap, subst, ℕ, ◌<◌, Bool, true, false, cond, ltb, List, [], ◌∷◌, Option, Some, None, arith, rules}
-use Rattle.std.specs.Prelude.{not, nat_eq, int_lt, is_some, ◌&&◌}
-use Rattle.std.specs.declared.cmp.Ordering.{Ordering}
+use Rattle.std.proofs.Common.{◌≡◌, ◌≢◌, ◌∙◌, refl, sym, ap, ℕ, ◌<◌, Bool, true, false, cond, ltb, List, [], ◌∷◌, Option, Some, None, arith}
+use Rattle.std.specs.Prelude.{not, nat_eq, int_lt, is_some}
 use Rattle.std.specs.declared.cmp.Ordering.TheVariants.{Less, Equal, Greater}
-use Rattle.std.specs.Ordering.{nat_cmp, is_eq, is_lt, ordering_then}
+use Rattle.std.specs.Ordering.{nat_cmp, is_lt, ordering_then}
 use Rattle.std.specs.Cmp.{Equal-is}
 use Rattle.std.specs.BTreeMap.{is_at}
 use Rattle.std.specs.List.{list_all}
@@ -13,9 +12,8 @@ use Rattle.manifest_form.specs.declared.state.StoredFile.{StoredFile}
 use Rattle.manifest_form.specs.declared.state.StoredFile.TheVariants.{Tiny, DeleteRange}
 use Rattle.manifest_form.specs.declared.state.StoredSegment.{StoredSegment}
 use Rattle.manifest_form.specs.declared.state.State.{State}
-use Rattle.manifest_form.specs.States.{placed, without, name_below, file_below, segment_below, cover_from, is_formed, least_handle}
+use Rattle.manifest_form.specs.States.{placed, without, name_below, file_below, segment_below, is_formed, least_handle}
 use Rattle.manifest_form.specs.Counting.{larger, top_of_name, top_of_file, top_from, top_of, top_cmp, faults, Counts, AllTopped}
-use Rattle.manifest_form.specs.Whole.{HasNone}
 use Rattle.manifest_form.proofs.Differ.{without_none}
 use Rattle.manifest_form.proofs.Slotting.{without_absent}
 use Rattle.manifest_form.proofs.Faults.{covered}

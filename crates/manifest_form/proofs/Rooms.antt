@@ -1,7 +1,7 @@
 -- Room that stays while edits are done.
 use Rattle.std.proofs.Common.{◌≡◌, ℕ, ℤ, ◌≤◌, Bool, true, List, [], ◌∷◌, arith}
 use Rattle.manifest_form.specs.declared.state.Edit.{Edit}
-use Rattle.manifest_form.specs.declared.state.Edit.TheVariants.{Next, Segment, Drop, High, SafePoint, Regions}
+use Rattle.manifest_form.specs.declared.state.Edit.TheVariants.{Next, Segment, Drop, High, SafePoint, Regions, Count}
 use Rattle.manifest_form.specs.Slots.{turn_after, HasRoom, HaveRoom}
 
 pub turn_rises : (edit : Edit) (turn : ℕ) → turn ≤ turn_after edit turn
@@ -11,6 +11,7 @@ turn_rises (Drop id) turn = omega arith
 turn_rises (High entries chain) turn = omega arith
 turn_rises (SafePoint ts) turn = omega arith
 turn_rises (Regions file) turn = omega arith
+turn_rises (Count entries) turn = omega arith
 
 one_stays : (slot other : ℤ × ℕ → Bool) (known more : ℕ → Bool) (edit : Edit) (from turn : ℕ) → from ≤ turn → ((q : ℤ × ℕ) → from ≤ q.1 → slot q ≡ true → other q ≡ true) → ((i : ℕ) → known i ≡ true → more i ≡ true) → HasRoom slot known edit turn → HasRoom other more edit turn
 one_stays slot other known more (Next file) from turn later slots ids room = tt
@@ -19,6 +20,7 @@ one_stays slot other known more (Drop id) from turn later slots ids room = tt
 one_stays slot other known more (High entries chain) from turn later slots ids room = tt
 one_stays slot other known more (SafePoint ts) from turn later slots ids room = tt
 one_stays slot other known more (Regions file) from turn later slots ids room = tt
+one_stays slot other known more (Count entries) from turn later slots ids room = tt
 
 -- where the slots of later turns and the ids stay
 pub room_stays : (slot other : ℤ × ℕ → Bool) (known more : ℕ → Bool) (edits : List Edit) (from turn : ℕ) → from ≤ turn → ((q : ℤ × ℕ) → from ≤ q.1 → slot q ≡ true → other q ≡ true) → ((i : ℕ) → known i ≡ true → more i ≡ true) → HaveRoom slot known edits turn → HaveRoom other more edits turn

@@ -10,9 +10,9 @@ use Rattle.manifest_form.specs.declared.state.StoredFile.TheVariants.{Tiny, Dele
 use Rattle.manifest_form.specs.declared.state.StoredSegment.{StoredSegment}
 use Rattle.manifest_form.specs.declared.state.State.{State}
 use Rattle.manifest_form.specs.declared.state.Edit.{Edit}
-use Rattle.manifest_form.specs.declared.state.Edit.TheVariants.{Segment, High, SafePoint}
+use Rattle.manifest_form.specs.declared.state.Edit.TheVariants.{Segment}
 use Rattle.manifest_form.specs.States.{placed, without, all_done, with_segments, nothing, is_high, is_safe_point, holds_any, cover_from, name_below, file_below, segment_below, least_handle, is_formed, all_below, changed, formed, after_record}
-use Rattle.manifest_form.specs.Whole.{HasNone, IdsDiffer, with_next, region_edits, whole_edits}
+use Rattle.manifest_form.specs.Whole.{HasNone, IdsDiffer, with_next, region_edits, count_edits, other_edits, whole_edits}
 
 -- ---- a segment behind those that begin no later
 
@@ -156,20 +156,23 @@ formed_next file next s lt h =
 
 -- ---- the whole state
 
-regions_done : (t : State) (regions : Option ℕ) → t.regions ≡ None → all_done t (region_edits regions) ≡ record { next = t.next; segments = t.segments; high = t.high; chain = t.chain; safe_point = t.safe_point; regions = regions }
-regions_done t None h = rw h refl
-regions_done t (Some file) h = refl
+-- A state without a region file and a count gets those that it is told.
+regions_done : (t : State) (regions count : Option ℕ) → t.regions ≡ None → t.count ≡ None → all_done t (region_edits regions ++ count_edits count) ≡ record t { regions = regions; count = count }
+regions_done t None None h k = rw (h, k) refl
+regions_done t (Some file) None h k = rw k refl
+regions_done t None (Some entries) h k = rw h refl
+regions_done t (Some file) (Some entries) h k = refl
 
 whole_done : (next : ℕ) (s : State) → InOrder s.segments → all_done nothing (whole_edits next s) ≡ with_next next s
 whole_done next s ordered =
-    put_all (with_next next nothing) [] s.segments (High s.high s.chain ∷ SafePoint s.safe_point ∷ region_edits s.regions) tt ordered
-    ∙ regions_done (record { next = next; segments = s.segments; high = s.high; chain = s.chain; safe_point = s.safe_point; regions = None }) s.regions refl
+    put_all (with_next next nothing) [] s.segments (other_edits s) tt ordered
+    ∙ regions_done (record { next = next; segments = s.segments; high = s.high; chain = s.chain; safe_point = s.safe_point; regions = None; count = None }) s.regions s.count refl refl
 
-any_high : (segments : List StoredSegment) (s : State) → list_any is_high (map (λ (segment : StoredSegment). Segment segment) segments ++ (High s.high s.chain ∷ SafePoint s.safe_point ∷ region_edits s.regions)) ≡ true
+any_high : (segments : List StoredSegment) (s : State) → list_any is_high (map (λ (segment : StoredSegment). Segment segment) segments ++ other_edits s) ≡ true
 any_high [] s = refl
 any_high (x ∷ rest) s = any_high rest s
 
-any_point : (segments : List StoredSegment) (s : State) → list_any is_safe_point (map (λ (segment : StoredSegment). Segment segment) segments ++ (High s.high s.chain ∷ SafePoint s.safe_point ∷ region_edits s.regions)) ≡ true
+any_point : (segments : List StoredSegment) (s : State) → list_any is_safe_point (map (λ (segment : StoredSegment). Segment segment) segments ++ other_edits s) ≡ true
 any_point [] s = refl
 any_point (x ∷ rest) s = any_point rest s
 

@@ -6,7 +6,7 @@ use Rattle.manifest_form.specs.declared.state.StoredFile.{StoredFile}
 use Rattle.manifest_form.specs.declared.state.StoredFile.TheVariants.{Tiny, DeleteRange}
 use Rattle.manifest_form.specs.declared.state.StoredSegment.{StoredSegment}
 use Rattle.manifest_form.specs.declared.state.Edit.{Edit}
-use Rattle.manifest_form.specs.declared.state.Edit.TheVariants.{Next, Segment, Drop, High, SafePoint, Regions}
+use Rattle.manifest_form.specs.declared.state.Edit.TheVariants.{Next, Segment, Drop, High, SafePoint, Regions, Count}
 use Rattle.manifest_form.specs.Fields.{here, byte_in, u32_at, u64_at, range_at}
 
 -- ---- a segment
@@ -67,6 +67,9 @@ point_at end bytes = u64_at end bytes >>= λ ts. Ok (SafePoint ts.0, ts.1)
 unfoldable pub regions_at : ℕ → List ℕ → Result (Edit × List ℕ) Fault
 regions_at end bytes = u32_at end bytes >>= λ file. Ok (Regions file.0, file.1)
 
+unfoldable pub count_at : ℕ → List ℕ → Result (Edit × List ℕ) Fault
+count_at end bytes = u64_at end bytes >>= λ entries. Ok (Count entries.0, entries.1)
+
 -- an edit of this kind
 abbrev pub edit_of : ℕ → ℕ → List ℕ → Result (Edit × List ℕ) Fault
 edit_of end kind bytes =
@@ -75,10 +78,11 @@ edit_of end kind bytes =
     else if kind == 3 then drop_at end bytes
     else if kind == 4 then mark_at end bytes
     else if kind == 5 then point_at end bytes
-    else regions_at end bytes
+    else if kind == 6 then regions_at end bytes
+    else count_at end bytes
 
 unfoldable pub edit_at : ℕ → List ℕ → Result (Edit × List ℕ) Fault
-edit_at end bytes = byte_in 1 6 (here end bytes) end bytes >>= λ kind. edit_of end kind.0 kind.1
+edit_at end bytes = byte_in 1 7 (here end bytes) end bytes >>= λ kind. edit_of end kind.0 kind.1
 
 -- at most so many edits, to the end
 unfoldable pub some_edits : ℕ → ℕ → List ℕ → Result (List Edit) Fault

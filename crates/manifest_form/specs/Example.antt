@@ -6,12 +6,15 @@ use Rattle.manifest_form.specs.declared.state.StoredFile.TheVariants.{Tiny}
 use Rattle.manifest_form.specs.declared.state.StoredSegment.{StoredSegment}
 use Rattle.manifest_form.specs.declared.state.State.{State}
 use Rattle.manifest_form.specs.declared.state.Edit.{Edit}
-use Rattle.manifest_form.specs.declared.state.Edit.TheVariants.{Next, Segment, High, SafePoint}
+use Rattle.manifest_form.specs.declared.state.Edit.TheVariants.{Next, Segment, High, SafePoint, Regions, Count}
 use Rattle.manifest_form.specs.declared.fault.Fault.TheVariants.{At}
 use Rattle.manifest_form.specs.States.{least_handle, after_record}
 use Rattle.manifest_form.specs.Whole.{with_next, whole_edits}
 use Rattle.flash_list.specs.Fields.{number_at}
 use Rattle.manifest_form.specs.Walk as walking
+use Rattle.manifest_form.specs.Edits as reading
+use Rattle.manifest_form.specs.Spelling as spelling
+use Rattle.manifest_form.specs.Fields.{byte_in}
 
 -- all handles, in one segment with these files
 abbrev pub whole : ℕ → List StoredFile → StoredSegment
@@ -25,14 +28,14 @@ abbrev new_store : List Edit
 new_store = Next 2 ∷ Segment (whole 0 []) ∷ High 0 chain ∷ SafePoint 0 ∷ []
 
 abbrev new_state : State
-new_state = record { next = 2; segments = whole 0 [] ∷ []; high = 0; chain = chain; safe_point = 0; regions = None }
+new_state = record { next = 2; segments = whole 0 [] ∷ []; high = 0; chain = chain; safe_point = 0; regions = None; count = None }
 
 a_new_store_is_formed : after_record 1 None new_store ≡ Some new_state
 a_new_store_is_formed = refl
 
 -- A flush of file 2, which Next has to pass.
 a_flush_names_its_file : after_record 1 (Some new_state) (Next 3 ∷ Segment (whole 0 (Tiny 2 ∷ [])) ∷ [])
-    ≡ Some (record { next = 3; segments = whole 0 (Tiny 2 ∷ []) ∷ []; high = 0; chain = chain; safe_point = 0; regions = None })
+    ≡ Some (record { next = 3; segments = whole 0 (Tiny 2 ∷ []) ∷ []; high = 0; chain = chain; safe_point = 0; regions = None; count = None })
 a_flush_names_its_file = refl
 
 a_file_at_next_is_refused : after_record 1 (Some new_state) (Segment (whole 0 (Tiny 2 ∷ [])) ∷ []) ≡ None
@@ -44,6 +47,33 @@ two_segments_on_all_handles_are_refused = refl
 -- A roll writes the whole state to file 2, with Next raised.
 a_state_told_whole_is_made_again : after_record 2 None (whole_edits 3 new_state) ≡ Some (with_next 3 new_state)
 a_state_told_whole_is_made_again = refl
+
+-- A checkpoint names its region file, and how many entries are applied there.
+abbrev checkpoint : List Edit
+checkpoint = Next 3 ∷ Regions 2 ∷ Count 5 ∷ []
+
+abbrev checked : State
+checked = record { next = 3; segments = whole 0 [] ∷ []; high = 0; chain = chain; safe_point = 0; regions = Some 2; count = Some 5 }
+
+a_checkpoint_has_a_count : after_record 1 (Some new_state) checkpoint ≡ Some checked
+a_checkpoint_has_a_count = refl
+
+-- Stores that were written before the count was kept have none.
+without_a_count : after_record 1 (Some new_state) (Next 3 ∷ Regions 2 ∷ []) ≡ Some (record checked { count = None })
+without_a_count = refl
+
+the_count_is_told_again : after_record 3 None (whole_edits 4 checked) ≡ Some (with_next 4 checked)
+the_count_is_told_again = refl
+
+-- its kind, and the number in 8 bytes
+the_count_as_bytes : spelling.edit (Count 258) ≡ 7 ∷ 0 ∷ 0 ∷ 0 ∷ 0 ∷ 0 ∷ 0 ∷ 1 ∷ 2 ∷ []
+unfolding spelling.edit
+the_count_as_bytes = refl
+
+-- No edit has the kind 8.
+a_later_kind_is_refused : reading.edit_at 9 (8 ∷ 0 ∷ []) ≡ Err (At 7)
+unfolding reading.edit_at byte_in
+a_later_kind_is_refused = refl
 
 -- ---- a root
 

@@ -8,7 +8,7 @@ use Rattle.flash_types.specs.declared.range.HandleRange.{HandleRange}
 use Rattle.manifest_form.specs.declared.state.StoredSegment.{StoredSegment}
 use Rattle.manifest_form.specs.declared.state.Edit.{Edit}
 use Rattle.manifest_form.specs.States.{segment_below, holds_any}
-use Rattle.manifest_form.specs.declared.state.Edit.TheVariants.{Next, Segment, Drop, High, SafePoint, Regions}
+use Rattle.manifest_form.specs.declared.state.Edit.TheVariants.{Next, Segment, Drop, High, SafePoint, Regions, Count}
 
 -- Places rise by the low end, and behind that by the turn at which a segment was put.
 abbrev pub place_cmp : ℤ × ℕ → ℤ × ℕ → Ordering
@@ -52,6 +52,7 @@ turn_after (Drop id) turn = turn
 turn_after (High entries chain) turn = turn
 turn_after (SafePoint ts) turn = turn
 turn_after (Regions file) turn = turn
+turn_after (Count entries) turn = turn
 
 -- There is a slot for the segment that the edit puts at this turn, and its id is in the table of ids.
 abbrev pub HasRoom : (ℤ × ℕ → Bool) → (ℕ → Bool) → Edit → ℕ → Type 0
@@ -61,6 +62,7 @@ HasRoom slot known (Drop id) turn = Unit {0}
 HasRoom slot known (High entries chain) turn = Unit {0}
 HasRoom slot known (SafePoint ts) turn = Unit {0}
 HasRoom slot known (Regions file) turn = Unit {0}
+HasRoom slot known (Count entries) turn = Unit {0}
 
 -- There is room for each of the edits, the first of them at this turn.
 abbrev pub HaveRoom : (ℤ × ℕ → Bool) → (ℕ → Bool) → List Edit → ℕ → Type 0

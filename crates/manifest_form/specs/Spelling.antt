@@ -10,7 +10,7 @@ use Rattle.manifest_form.specs.declared.state.StoredFile.{StoredFile}
 use Rattle.manifest_form.specs.declared.state.StoredFile.TheVariants.{Tiny, DeleteRange}
 use Rattle.manifest_form.specs.declared.state.StoredSegment.{StoredSegment}
 use Rattle.manifest_form.specs.declared.state.Edit.{Edit}
-use Rattle.manifest_form.specs.declared.state.Edit.TheVariants.{Next, Segment, Drop, High, SafePoint, Regions}
+use Rattle.manifest_form.specs.declared.state.Edit.TheVariants.{Next, Segment, Drop, High, SafePoint, Regions, Count}
 
 abbrev pub handle : ℤ → List ℕ
 handle z = to_be_bytes w64 (cast_unsigned w64 z)
@@ -40,6 +40,7 @@ edit (Drop id) = 3 ∷ to_be_bytes w32 id
 edit (High entries chain) = 4 ∷ (to_be_bytes w64 entries ++ chain)
 edit (SafePoint ts) = 5 ∷ to_be_bytes w64 ts
 edit (Regions file) = 6 ∷ to_be_bytes w32 file
+edit (Count entries) = 7 ∷ to_be_bytes w64 entries
 
 -- ---- the header
 
@@ -89,3 +90,4 @@ EditFits (Drop id) = id < 2 ^ 32
 EditFits (High entries chain) = (entries < 2 ^ 64) × (length chain ≡ 32)
 EditFits (SafePoint ts) = ts < 2 ^ 64
 EditFits (Regions file) = file < 2 ^ 32
+EditFits (Count entries) = entries < 2 ^ 64

@@ -9,7 +9,7 @@ use Rattle.manifest_form.specs.declared.state.StoredFile.TheVariants.{Tiny, Dele
 use Rattle.manifest_form.specs.declared.state.StoredSegment.{StoredSegment}
 use Rattle.manifest_form.specs.declared.state.State.{State}
 use Rattle.manifest_form.specs.declared.state.Edit.{Edit}
-use Rattle.manifest_form.specs.declared.state.Edit.TheVariants.{Next, Segment, Drop, High, SafePoint, Regions}
+use Rattle.manifest_form.specs.declared.state.Edit.TheVariants.{Next, Segment, Drop, High, SafePoint, Regions, Count}
 
 -- ---- what an edit does
 
@@ -23,16 +23,17 @@ without id segments = filter (λ (segment : StoredSegment). not (nat_eq segment.
 
 -- the state after an edit
 abbrev pub done : State → Edit → State
-done s (Next file) = record { next = file; segments = s.segments; high = s.high; chain = s.chain; safe_point = s.safe_point; regions = s.regions }
-done s (Segment segment) = record { next = s.next; segments = placed segment (without segment.id s.segments); high = s.high; chain = s.chain; safe_point = s.safe_point; regions = s.regions }
-done s (Drop id) = record { next = s.next; segments = without id s.segments; high = s.high; chain = s.chain; safe_point = s.safe_point; regions = s.regions }
-done s (High entries chain) = record { next = s.next; segments = s.segments; high = entries; chain = chain; safe_point = s.safe_point; regions = s.regions }
-done s (SafePoint ts) = record { next = s.next; segments = s.segments; high = s.high; chain = s.chain; safe_point = ts; regions = s.regions }
-done s (Regions file) = record { next = s.next; segments = s.segments; high = s.high; chain = s.chain; safe_point = s.safe_point; regions = Some file }
+done s (Next file) = record s { next = file }
+done s (Segment segment) = record s { segments = placed segment (without segment.id s.segments) }
+done s (Drop id) = record s { segments = without id s.segments }
+done s (High entries chain) = record s { high = entries; chain = chain }
+done s (SafePoint ts) = record s { safe_point = ts }
+done s (Regions file) = record s { regions = Some file }
+done s (Count entries) = record s { count = Some entries }
 
 -- the state with these segments in the place of its own
 abbrev pub with_segments : State → List StoredSegment → State
-with_segments s segments = record { next = s.next; segments = segments; high = s.high; chain = s.chain; safe_point = s.safe_point; regions = s.regions }
+with_segments s segments = record s { segments = segments }
 
 -- the state after edits, in order
 abbrev pub all_done : State → List Edit → State
@@ -80,7 +81,7 @@ AllFormed file (Some s) = is_formed file s ≡ true
 
 -- nothing was named
 abbrev pub nothing : State
-nothing = record { next = 0; segments = []; high = 0; chain = replicate 32 0; safe_point = 0; regions = None }
+nothing = record { next = 0; segments = []; high = 0; chain = replicate 32 0; safe_point = 0; regions = None; count = None }
 
 abbrev pub is_high : Edit → Bool
 is_high (High entries chain) = true

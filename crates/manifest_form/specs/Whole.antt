@@ -4,7 +4,7 @@ use Rattle.std.specs.Coded.{×_prop, →_prop, Unit-prop}
 use Rattle.manifest_form.specs.declared.state.StoredSegment.{StoredSegment}
 use Rattle.manifest_form.specs.declared.state.State.{State}
 use Rattle.manifest_form.specs.declared.state.Edit.{Edit}
-use Rattle.manifest_form.specs.declared.state.Edit.TheVariants.{Next, Segment, High, SafePoint, Regions}
+use Rattle.manifest_form.specs.declared.state.Edit.TheVariants.{Next, Segment, High, SafePoint, Regions, Count}
 use Rattle.manifest_form.specs.States.{is_formed, after_record}
 
 -- no segment has this id
@@ -31,15 +31,23 @@ IdsDiffer-prop (segment ∷ rest) = ×_prop (HasNone-prop segment.id rest) (IdsD
 
 -- the state with another Next
 abbrev pub with_next : ℕ → State → State
-with_next next s = record { next = next; segments = s.segments; high = s.high; chain = s.chain; safe_point = s.safe_point; regions = s.regions }
+with_next next s = record s { next = next }
 
 abbrev pub region_edits : Option ℕ → List Edit
 region_edits None = []
 region_edits (Some file) = Regions file ∷ []
 
--- all that a state has, but for Next
+abbrev pub count_edits : Option ℕ → List Edit
+count_edits None = []
+count_edits (Some entries) = Count entries ∷ []
+
+-- what a state has besides Next and its segments
+abbrev pub other_edits : State → List Edit
+other_edits s = High s.high s.chain ∷ SafePoint s.safe_point ∷ (region_edits s.regions ++ count_edits s.count)
+
+-- all that a state has, with this Next
 abbrev pub whole_edits : ℕ → State → List Edit
-whole_edits next s = Next next ∷ (map (λ (segment : StoredSegment). Segment segment) s.segments ++ (High s.high s.chain ∷ SafePoint s.safe_point ∷ region_edits s.regions))
+whole_edits next s = Next next ∷ (map (λ (segment : StoredSegment). Segment segment) s.segments ++ other_edits s)
 
 -- A record of a whole state, with a Next above the old one, makes that state of nothing, in the file whose number was the old Next.
 abbrev pub WholeStatesAreDoneAgain : Type 0

@@ -48,6 +48,7 @@ fn copied_edit(alloc: Global, edit: &Edit) -> Result<Edit, AllocError>
         }),
         Edit::SafePoint { ts } => Ok(Edit::SafePoint { ts: *ts }),
         Edit::Regions { file } => Ok(Edit::Regions { file: *file }),
+        Edit::Count { entries } => Ok(Edit::Count { entries: *entries }),
     }
 }
 
@@ -168,6 +169,7 @@ fn do_one(state: &mut State, slots: &mut Slots, edit: Edit)
         }
         Edit::SafePoint { ts } => state.safe_point = ts,
         Edit::Regions { file } => state.regions = Some(file),
+        Edit::Count { entries } => state.count = Some(entries),
     }
 }
 

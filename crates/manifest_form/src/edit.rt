@@ -100,7 +100,7 @@ fn mark_of(end: u64, bytes: &[u8]) -> Result<(Edit, &[u8]), Fault>
     Ok((Edit::High { entries, chain }, rest))
 }
 
-#[tactic(auto, unfolding(crate::specs::Edits::next_at, crate::specs::Edits::put_at, crate::specs::Edits::drop_at, crate::specs::Edits::point_at, crate::specs::Edits::regions_at))]
+#[tactic(auto, unfolding(crate::specs::Edits::next_at, crate::specs::Edits::put_at, crate::specs::Edits::drop_at, crate::specs::Edits::point_at, crate::specs::Edits::regions_at, crate::specs::Edits::count_at))]
 fn edit_of(alloc: Global, end: u64, kind: u8, bytes: &[u8]) -> Result<(Edit, &[u8]), Fault>
     ensures { Gives (λ x. (x.0, x.1.now)) result (edit_of end kind bytes.now) }
 {
@@ -122,9 +122,13 @@ fn edit_of(alloc: Global, end: u64, kind: u8, bytes: &[u8]) -> Result<(Edit, &[u
             let (ts, rest) = u64_of(end, bytes)?;
             Ok((Edit::SafePoint { ts }, rest))
         }
-        _ => {
+        6 => {
             let (file, rest) = u32_of(end, bytes)?;
             Ok((Edit::Regions { file }, rest))
+        }
+        _ => {
+            let (entries, rest) = u64_of(end, bytes)?;
+            Ok((Edit::Count { entries }, rest))
         }
     }
 }
@@ -133,7 +137,7 @@ fn edit_of(alloc: Global, end: u64, kind: u8, bytes: &[u8]) -> Result<(Edit, &[u
 fn one_edit(alloc: Global, end: u64, bytes: &[u8]) -> Result<(Edit, &[u8]), Fault>
     ensures { Gives (λ x. (x.0, x.1.now)) result (edit_at end bytes.now) }
 {
-    let (kind, rest) = u8_in(1, 6, here(end, bytes), end, bytes)?;
+    let (kind, rest) = u8_in(1, 7, here(end, bytes), end, bytes)?;
     edit_of(alloc, end, kind, rest)
 }
 

@@ -74,6 +74,7 @@ impl Growing {
                 chain: [0; 32],
                 safe_point: 0,
                 regions: None,
+                count: None,
             },
             count: Some(1),
             tops: BTreeMap::new(alloc),
@@ -136,6 +137,7 @@ impl Growing {
             }
             Edit::SafePoint { ts } => growing.state.safe_point = ts,
             Edit::Regions { file } => growing.state.regions = Some(file),
+            Edit::Count { entries } => growing.state.count = Some(entries),
         }
         Ok(growing)
     }

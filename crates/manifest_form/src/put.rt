@@ -136,12 +136,13 @@ fn put_mark(entries: u64, chain: &[u8], into: &mut Vec<u8>) -> Result<(), AllocE
     put_bytes(chain, into)
 }
 
+// A byte that tells the kind, and a number of 8 bytes.
 #[tactic(auto, using(flash_put::proofs::Appending::kept))]
-fn put_point(ts: u64, into: &mut Vec<u8>) -> Result<(), AllocError>
-    ensures { Appends result into.old.items (5 ∷ to_be_bytes w64 ts) into.new.items }
+fn put_number(kind: u8, number: u64, into: &mut Vec<u8>) -> Result<(), AllocError>
+    ensures { Appends result into.old.items (kind ∷ to_be_bytes w64 number) into.new.items }
 {
-    put_u8(5, into)?;
-    put_u64(ts, into)
+    put_u8(kind, into)?;
+    put_u64(number, into)
 }
 
 #[tactic(auto, unfolding(crate::specs::Spelling::edit))]
@@ -154,8 +155,9 @@ fn put_edit(edit: &Edit, into: &mut Vec<u8>) -> Result<(), AllocError>
         Edit::Segment { segment } => put_segment(segment, into),
         Edit::Drop { id } => put_file(3, *id, into),
         Edit::High { entries, chain } => put_mark(*entries, chain, into),
-        Edit::SafePoint { ts } => put_point(*ts, into),
+        Edit::SafePoint { ts } => put_number(5, *ts, into),
         Edit::Regions { file } => put_file(6, *file, into),
+        Edit::Count { entries } => put_number(7, *entries, into),
     }
 }
 

@@ -85,6 +85,9 @@ pub struct State {
     pub safe_point: Ts,
     /// The region file of the last checkpoint.
     pub regions: Option<FileId>,
+    /// How many entries of the log are applied in that region file. Stores that were written before
+    /// it was kept have none.
+    pub count: Option<u64>,
 }
 
 /// A change of a state.
@@ -102,6 +105,8 @@ pub enum Edit {
     SafePoint { ts: Ts },
     /// The region file of a checkpoint.
     Regions { file: FileId },
+    /// How many entries are applied in the region file of a checkpoint.
+    Count { entries: u64 },
 }
 
 /// Edits that are done together, in order.

@@ -3,7 +3,7 @@ ghost use Rattle.std.specs.Prelude.{◌≡◌, ◌++◌, ◌∷◌, [], map, OnO
 ghost use Rattle.manifest_form.specs.declared.state.StoredSegment.{StoredSegment};
 ghost use Rattle.manifest_form.specs.declared.state.Edit.TheVariants as edit;
 ghost use Rattle.manifest_form.specs.Slots.{somes, present};
-ghost use Rattle.manifest_form.specs.Whole.{region_edits, whole_edits};
+ghost use Rattle.manifest_form.specs.Whole.{count_edits, region_edits, whole_edits};
 
 use crate::change::copied_segment;
 use crate::slots::Places;
@@ -50,6 +50,18 @@ fn put_regions(regions: Option<FileId>, into: &mut Vec<Edit>) -> Result<(), Allo
     }
 }
 
+fn put_count(count: Option<u64>, into: &mut Vec<Edit>) -> Result<(), AllocError>
+    ensures { OnOk result (into.new.items ≡ into.old.items ++ count_edits count) }
+{
+    match count {
+        None => Ok(()),
+        Some(entries) => {
+            into.push(Edit::Count { entries })?;
+            Ok(())
+        }
+    }
+}
+
 /// The edits that make this state, with this Next, of nothing: the first record of a new manifest.
 pub fn whole_edits(alloc: Global, next: u32, state: &State) -> Result<Vec<Edit>, AllocError>
     ensures { IfOk result (λ edits. edits.items ≡ whole_edits next state.now) }
@@ -66,5 +78,6 @@ pub fn whole_edits(alloc: Global, next: u32, state: &State) -> Result<Vec<Edit>,
         ts: state.safe_point,
     })?;
     put_regions(state.regions, &mut edits)?;
+    put_count(state.count, &mut edits)?;
     Ok(edits)
 }

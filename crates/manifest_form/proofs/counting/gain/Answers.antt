@@ -1,4 +1,4 @@
-use Rattle.std.proofs.Common.{◌≡◌, sym, ap, Some, ℤ, ℕ}
+use Rattle.std.proofs.Common.{sym, ap, Some, ℤ, ℕ}
 use Rattle.std.specs.BTreeMap.{get}
 use Rattle.std.specs.Ordering.{nat_cmp}
 use Rattle.manifest_form.specs.States.{least_handle}

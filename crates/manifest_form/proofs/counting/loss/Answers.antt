@@ -1,4 +1,4 @@
-use Rattle.std.proofs.Common.{◌≡◌, ◌∙◌, ◌+◌, ap, sym, Some}
+use Rattle.std.proofs.Common.{◌∙◌, ◌+◌, ap, sym, Some}
 use Rattle.std.specs.BTreeMap.{get}
 use Rattle.std.specs.Ordering.{nat_cmp}
 use Rattle.manifest_form.specs.States.{least_handle}

@@ -2,7 +2,7 @@ use Rattle.std.proofs.Common.{◌≡◌, ◌∙◌, true, ap, sym, subst, Some}
 use Rattle.std.specs.Prelude.{is_some}
 use Rattle.std.specs.BTreeMap.{get}
 use Rattle.manifest_form.specs.declared.state.State.{State}
-use Rattle.manifest_form.specs.Counting.{top_cmp, top_of, faults}
+use Rattle.manifest_form.specs.Counting.{top_cmp, faults}
 use Rattle.manifest_form.specs.States.{placed, without, with_segments, least_handle}
 use Rattle.manifest_form.proofs.Growth.{topped_more, topped_placed, without_twice}
 use Rattle.manifest_form.proofs.growing.Growing.put_segment.Goals as goal
