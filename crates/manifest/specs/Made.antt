@@ -16,7 +16,7 @@ abbrev pub first_edits : List ℕ → List Edit
 first_edits chain = Next 2 ∷ Segment (whole 0 []) ∷ High 0 chain ∷ SafePoint 0 ∷ []
 
 abbrev pub first_state : List ℕ → State
-first_state chain = record { next = 2; segments = whole 0 [] ∷ []; high = 0; chain = chain; safe_point = 0; regions = None }
+first_state chain = record { next = 2; segments = whole 0 [] ∷ []; high = 0; chain = chain; safe_point = 0; regions = None; count = None }
 
 -- a store of this table and these columns in this state
 abbrev pub store_of : ℤ → List Column → State → Recovered

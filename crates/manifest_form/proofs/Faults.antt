@@ -9,7 +9,7 @@ use Rattle.std.specs.Map.{keys_of, values_of, lookup, remove_entry}
 use Rattle.std.proofs.lemmas.Map.Keys.{sorted_head, sorted_tail}
 use Rattle.flash_types.specs.declared.range.HandleRange.{HandleRange}
 use Rattle.manifest_form.specs.declared.state.StoredSegment.{StoredSegment}
-use Rattle.manifest_form.specs.States.{cover_from, holds_any, placed, without}
+use Rattle.manifest_form.specs.States.{cover_from, has_any, placed, without}
 use Rattle.manifest_form.specs.Slots.{place_cmp, somes, present, Fits, AllFit, has_id, range_of}
 use Rattle.manifest_form.specs.Counting.{fault_at, next_fault, faults, end_from, first_range, before, behind}
 use Rattle.manifest_form.proofs.Slotting.{Sorted, Above, place_exact, same_place, above_above, taken_out, put_in}
@@ -47,7 +47,7 @@ covered None (s ∷ ss) none = let n = none in absurd (omega (arith, n))
 covered (Some low) (s ∷ ss) none =
     let here : fault_at (Some low) s.range ≡ 0 = omega (arith, none) in
     let rest : faults s.range.high ss ≡ 0 = omega (arith, none) in
-    both (int_eq s.range.low low) (holds_any s.range) (cover_from s.range.high ss) (no_fault (int_eq s.range.low low && holds_any s.range) here) (covered s.range.high ss rest)
+    both (int_eq s.range.low low) (has_any s.range) (cover_from s.range.high ss) (no_fault (int_eq s.range.low low && has_any s.range) here) (covered s.range.high ss rest)
   where
     both : (a b t : Bool) → (a && b) ≡ true → t ≡ true → (a && (b && t)) ≡ true
     both true true t is rest = rest

@@ -11,7 +11,7 @@ use Rattle.manifest_form.specs.declared.state.StoredSegment.{StoredSegment}
 use Rattle.manifest_form.specs.declared.state.State.{State}
 use Rattle.manifest_form.specs.declared.state.Edit.{Edit}
 use Rattle.manifest_form.specs.declared.state.Edit.TheVariants.{Segment}
-use Rattle.manifest_form.specs.States.{placed, without, all_done, with_segments, nothing, is_high, is_safe_point, holds_any, cover_from, name_below, file_below, segment_below, least_handle, is_formed, all_below, changed, formed, after_record}
+use Rattle.manifest_form.specs.States.{placed, without, all_done, with_segments, nothing, is_high, is_safe_point, has_any, cover_from, name_below, file_below, segment_below, least_handle, is_formed, all_below, changed, formed, after_record}
 use Rattle.manifest_form.specs.Whole.{HasNone, IdsDiffer, with_next, region_edits, count_edits, other_edits, whole_edits}
 
 -- ---- a segment behind those that begin no later
@@ -96,8 +96,8 @@ covered_before a None [] le cover none = tt
 covered_before a None (s ∷ rest) le cover none = absurd (cc cover)
 covered_before a (Some low) [] le cover none = tt
 covered_before a (Some low) (s ∷ rest) le cover none =
-    let one = and_both (int_eq s.range.low low) (holds_any s.range && cover_from s.range.high rest) cover in
-    let two = and_both (holds_any s.range) (cover_from s.range.high rest) one.1 in
+    let one = and_both (int_eq s.range.low low) (has_any s.range && cover_from s.range.high rest) cover in
+    let two = and_both (has_any s.range) (cover_from s.range.high rest) one.1 in
     let here : s.range.low ≡ low = same_low s.range.low low one.0 in
     let le' : int_lt s.range.low a.range.low ≡ false = ap (λ (z : ℤ). int_lt z a.range.low) here ∙ le in
     (((λ is. none.0 (sym is)), le'), covered_before a s.range.high rest (high_behind a.range.low s.range.low s.range.high le' two.0) two.1 none.1)
@@ -110,8 +110,8 @@ in_order None [] cover differ = tt
 in_order None (s ∷ rest) cover differ = absurd (cc cover)
 in_order (Some low) [] cover differ = tt
 in_order (Some low) (s ∷ rest) cover differ =
-    let one = and_both (int_eq s.range.low low) (holds_any s.range && cover_from s.range.high rest) cover in
-    let two = and_both (holds_any s.range) (cover_from s.range.high rest) one.1 in
+    let one = and_both (int_eq s.range.low low) (has_any s.range && cover_from s.range.high rest) cover in
+    let two = and_both (has_any s.range) (cover_from s.range.high rest) one.1 in
     (covered_before s s.range.high rest (high_behind s.range.low s.range.low s.range.high (not_itself s.range.low) two.0) two.1 differ.0, in_order s.range.high rest two.1 differ.1)
 
 -- ---- a greater Next

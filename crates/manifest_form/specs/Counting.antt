@@ -10,12 +10,12 @@ use Rattle.manifest_form.specs.declared.state.StoredFile.{StoredFile}
 use Rattle.manifest_form.specs.declared.state.StoredFile.TheVariants.{Tiny, DeleteRange}
 use Rattle.manifest_form.specs.declared.state.StoredSegment.{StoredSegment}
 use Rattle.manifest_form.specs.Slots.{place_cmp}
-use Rattle.manifest_form.specs.States.{holds_any}
+use Rattle.manifest_form.specs.States.{has_any}
 
 -- 1 where a range doesn't go on from this handle, or is empty
 abbrev pub fault_at : Option ℤ → HandleRange → ℕ
 fault_at None range = 1
-fault_at (Some low) range = if int_eq range.low low && holds_any range then 0 else 1
+fault_at (Some low) range = if int_eq range.low low && has_any range then 0 else 1
 
 -- 1 where the next range, or the end of all handles, doesn't go on from this handle
 abbrev pub next_fault : Option ℤ → Option HandleRange → ℕ

@@ -7,7 +7,7 @@ use Rattle.std.specs.List.{AllByRecursion}
 use Rattle.flash_types.specs.declared.range.HandleRange.{HandleRange}
 use Rattle.manifest_form.specs.declared.state.StoredSegment.{StoredSegment}
 use Rattle.manifest_form.specs.declared.state.Edit.{Edit}
-use Rattle.manifest_form.specs.States.{segment_below, holds_any}
+use Rattle.manifest_form.specs.States.{segment_below, has_any}
 use Rattle.manifest_form.specs.declared.state.Edit.TheVariants.{Next, Segment, Drop, High, SafePoint, Regions, Count}
 
 -- Places rise by the low end, and behind that by the turn at which a segment was put.
@@ -79,4 +79,4 @@ slot_below next (Some s) = segment_below next s
 abbrev pub end_of : Option ℤ → Option StoredSegment → Option (Option ℤ)
 end_of from None = Some from
 end_of None (Some s) = None
-end_of (Some low) (Some s) = if int_eq s.range.low low && holds_any s.range then Some s.range.high else None
+end_of (Some low) (Some s) = if int_eq s.range.low low && has_any s.range then Some s.range.high else None

@@ -2,8 +2,7 @@
 use Rattle.std.specs.Prelude.{◌≡◌, ℕ, ℤ, Bool, true, false, ◌&&◌, not, nat_lt, nat_eq, int_lt, if◌then◌else◌, List, [], ◌∷◌, replicate, Option, Some, None}
 use Rattle.std.specs.Ordering.{int_eq}
 use Rattle.std.specs.List.{filter, list_all, list_any}
-use Rattle.flash_types.specs.declared.range.HandleRange.{HandleRange}
-pub use Rattle.flash_types.specs.Ranges.{least_handle}
+pub use Rattle.flash_types.specs.Ranges.{least_handle, has_any}
 use Rattle.manifest_form.specs.declared.state.StoredFile.{StoredFile}
 use Rattle.manifest_form.specs.declared.state.StoredFile.TheVariants.{Tiny, DeleteRange}
 use Rattle.manifest_form.specs.declared.state.StoredSegment.{StoredSegment}
@@ -42,15 +41,12 @@ all_done s (edit ∷ edits) = all_done (done s edit) edits
 
 -- ---- which states a store may have
 
-abbrev pub holds_any : HandleRange → Bool
-holds_any range = elim range.high [ None ↦ true | Some high ↦ int_lt range.low high ]
-
 -- The ranges follow each other from this handle on, none is empty, and the last one has no end. None: no handle is left.
 abbrev pub cover_from : Option ℤ → List StoredSegment → Bool
 cover_from None [] = true
 cover_from None (segment ∷ rest) = false
 cover_from (Some low) [] = false
-cover_from (Some low) (segment ∷ rest) = int_eq segment.range.low low && (holds_any segment.range && cover_from segment.range.high rest)
+cover_from (Some low) (segment ∷ rest) = int_eq segment.range.low low && (has_any segment.range && cover_from segment.range.high rest)
 
 abbrev pub name_below : ℕ → Option ℕ → Bool
 name_below next None = true

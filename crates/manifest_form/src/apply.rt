@@ -1,13 +1,13 @@
 // How edits change a state.
 ghost use Rattle.std.specs.Prelude.{◌≡◌, OnOk, Some, ◌&&◌};
 ghost use Rattle.std.specs.List.{list_any, list_all};
-ghost use Rattle.manifest_form.specs.States.{placed, without, holds_any, cover_from, name_below, file_below, segment_below, all_below, is_formed, is_high, is_safe_point};
+ghost use Rattle.manifest_form.specs.States.{placed, without, cover_from, name_below, file_below, segment_below, all_below, is_formed, is_high, is_safe_point};
 ghost use Rattle.manifest_form.specs.Slots.{present, slot_below, end_of};
 
 use crate::slots::{Places, forget, put, take_out};
 use crate::state::{Edit, State, StoredFile, StoredSegment, StoredSegments};
 use flash_io::FileId;
-use flash_types::{HandleRange, SegId};
+use flash_types::SegId;
 use std::alloc::AllocError;
 
 impl StoredSegments {
@@ -124,15 +124,6 @@ fn all_below(next: u32, file: FileId, state: &State) -> bool
     file < next && name_below(next, state.regions) && segments_below(next, &segments.slots.places)
 }
 
-pub fn holds_any(range: &HandleRange) -> bool
-    ensures { result ≡ holds_any range.now }
-{
-    match range.high {
-        None => true,
-        Some(high) => range.low < high,
-    }
-}
-
 // Where the ranges go on behind a slot, if they went on there; the first None is a gap.
 fn end_of(from: Option<i64>, slot: &Option<StoredSegment>) -> Option<Option<i64>>
     ensures { result ≡ end_of from slot.now }
@@ -143,7 +134,7 @@ fn end_of(from: Option<i64>, slot: &Option<StoredSegment>) -> Option<Option<i64>
     let Some(low) = from else {
         return None;
     };
-    if segment.range.low != low || !holds_any(&segment.range) {
+    if segment.range.low != low || segment.range.is_empty() {
         return None;
     }
     Some(segment.range.high)

@@ -6,7 +6,6 @@ ghost use Rattle.manifest_form.specs.Counting.{before, behind, Counts, end_from,
 ghost use Rattle.manifest_form.specs.Slots.{place_cmp, present, AllFit, range_of};
 ghost use Rattle.manifest_form.specs.States.{least_handle, placed, without};
 
-use crate::apply::holds_any;
 use crate::slots::{Place, Places, Slots, next_place, place_of};
 use crate::state::{StoredSegment, StoredSegments};
 use flash_types::{HandleRange, SegId};
@@ -18,7 +17,7 @@ fn fault_at(from: Option<i64>, range: &HandleRange) -> u64
     let Some(low) = from else {
         return 1;
     };
-    if range.low == low && holds_any(range) {
+    if range.low == low && !range.is_empty() {
         return 0;
     }
     1
