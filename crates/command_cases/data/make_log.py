@@ -31,6 +31,11 @@ Ops:
     lock 5 7 P                      handle, start timestamp, kind (P, D, L or S)
     unlock 5
     drop-value 5 7                  a delete in default
+    raw-put 3 5 10 500776           family, handle, timestamp, the record in hexadecimal
+    cut-put 6 10 9                  handle, timestamp; the key lacks its last bytes, this many
+    cut-drop 5 10 9                 the same of a delete in default
+    raw-lock 5 58                   handle, the record in hexadecimal
+    elsewhere 2 500 10              a put record of another table: table, handle, timestamp
 
 `min` is the least handle, and `end` stands for no high end. A column is an id and `null`, a number,
 or `x` and hexadecimal bytes. docs/FORMATS.md describes the bytes.
@@ -165,11 +170,25 @@ def row_of(columns, words):
     return row([(i, cell(v, kinds.get(i, "bytes"))) for i, v in fields])
 
 
-OPS = ("put", "value", "put-value", "delete", "lock-record", "rollback", "lock", "unlock", "drop-value")
+OPS = ("put", "value", "put-value", "delete", "lock-record", "rollback", "lock", "unlock", "drop-value",
+       "raw-put", "cut-put", "cut-drop", "raw-lock", "elsewhere")
+
+
+def raw_op_of(table, what, args):
+    """An op that may be none."""
+    return {
+        "raw-put": lambda: op(int(args[0]), timed_key(table, int(args[1]), int(args[2])), bytes.fromhex(args[3])),
+        "cut-put": lambda: op(3, timed_key(table, int(args[0]), int(args[1]))[:-int(args[2])], b""),
+        "cut-drop": lambda: op(1, timed_key(table, int(args[0]), int(args[1]))[:-int(args[2])]),
+        "raw-lock": lambda: op(2, record_key(table, int(args[0])), bytes.fromhex(args[1])),
+        "elsewhere": lambda: op(3, timed_key(int(args[0]), int(args[1]), int(args[2])), b""),
+    }[what]()
 
 
 def op_of(table, columns, what, args):
     """The op of a line, which is one of OPS."""
+    if what in OPS[-5:]:
+        return raw_op_of(table, what, args)
     numbers = [int(a) for a in args if "=" not in a and a not in "PDLS"]
     words = [a for a in args if "=" in a]
     return {

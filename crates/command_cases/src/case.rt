@@ -30,7 +30,10 @@ pub fn read_case<R: Files + AllocGlobal>(rt: &R, line: &str) -> io::Result<Optio
 fn read_log<R: Files + AllocGlobal>(rt: &R, text: &str) -> io::Result<Option<Vec<u8>>> {
     let parts: Vec<&str> = text.split_whitespace().collect(rt.alloc())?;
     match *parts.as_slice() {
-        [file] => Ok(fs::read(rt, file).ok()),
+        [text] => match text.strip_prefix("x") {
+            Some(digits) => Ok(hex::decode(rt.alloc(), digits).ok()),
+            None => Ok(fs::read(rt, text).ok()),
+        },
         [file, "to", count] => {
             let mut log = fs::read(rt, file)?;
             log.truncate(count.parse::<usize>().unwrap_or(0));

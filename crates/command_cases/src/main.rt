@@ -1,8 +1,10 @@
 //! Runs the program's commands on cases that can be read, and prints what each gave. A line of the
 //! file `cases` is a case of three parts with bars between them: the log's file, a script and the
 //! words. Behind the log's file may stand `to N`, its first N bytes alone, or `with AT BYTE`, its
-//! byte at this place changed. A script is its text, `@` and a file, or `-` for a file that isn't
-//! there. A line that begins with `fronts` is run on each front of the log. Other lines are titles.
+//! byte at this place changed; a log may also be `x` and its bytes in hexadecimal, with its
+//! description before it, as `make_log.py` takes it. A script is its text, `@` and a file, or `-`
+//! for a file that isn't there. A line that begins with `fronts` is run on each front of the log.
+//! Other lines are titles.
 #![tactic(auto)]
 
 mod case;
