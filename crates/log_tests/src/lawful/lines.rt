@@ -9,21 +9,10 @@ use kv_codec::{encode_key, put_ts};
 use log_codec::{Entry, frames_have_one_spelling};
 use std::alloc::AllocError;
 
-// A change of a row of table 1, by its handle.
+// A record of the write family, for a row of table 1: its handle, its timestamp and the record.
 #[derive(Clone, Copy)]
 pub enum Change {
-    // A record of the write family, with its timestamp.
     Put(i64, u64, Record),
-    // A value of the default family, with its start.
-    Value(i64, u64, Record),
-    // A value of the default family is taken out.
-    Drop(i64, u64),
-    Lock(i64, Record),
-    // A put or a delete whose key lacks its last bytes.
-    PutCut(i64, usize),
-    DropCut(i64, usize),
-    // A put in another table.
-    Elsewhere(i64, i64),
 }
 
 #[derive(Clone, Copy)]
@@ -64,23 +53,17 @@ fn add_range(low: i64, high: Option<i64>, into: &mut Vec<u8>) -> Result<(), Allo
     }
 }
 
-// A key's table, handle and timestamp, and how many of its last bytes it lacks.
-#[derive(Clone, Copy)]
-struct Key(i64, i64, Option<u64>, usize);
-
-fn key_of(alloc: Global, key: Key) -> Result<Vec<u8>, AllocError> {
+// The key of a row of table 1 with a timestamp.
+fn key_of(alloc: Global, handle: i64, ts: u64) -> Result<Vec<u8>, AllocError> {
     let mut bytes = Vec::new(alloc);
-    encode_key(key.0, key.1, &mut bytes)?;
-    if let Some(ts) = key.2 {
-        put_ts(ts, &mut bytes)?;
-    }
-    let len = bytes.len().saturating_sub(key.3);
-    bytes.truncate(len);
+    encode_key(1, handle, &mut bytes)?;
+    put_ts(ts, &mut bytes)?;
     Ok(bytes)
 }
 
-fn add_key(put: u8, family: u8, key: Vec<u8>, into: &mut Vec<u8>) -> Result<(), Fail> {
-    add(&[put, family], into)?;
+// A put in the write family.
+fn add_key(key: Vec<u8>, into: &mut Vec<u8>) -> Result<(), Fail> {
+    add(&[1, 3], into)?;
     let len = u16::try_from(key.len()).ok().ok_or("a short key")?;
     add(&len.to_be_bytes(), into)?;
     add(&key, into)?;
@@ -94,46 +77,11 @@ fn add_value(value: &[u8], into: &mut Vec<u8>) -> Result<(), Fail> {
     Ok(())
 }
 
-fn add_put(
-    alloc: Global,
-    family: u8,
-    key: Key,
-    value: &[u8],
-    into: &mut Vec<u8>,
-) -> Result<(), Fail> {
-    add_key(1, family, key_of(alloc, key)?, into)?;
-    add_value(value, into)
-}
-
-fn add_delete(alloc: Global, family: u8, key: Key, into: &mut Vec<u8>) -> Result<(), Fail> {
-    add_key(2, family, key_of(alloc, key)?, into)
-}
-
-// A key of table 1 with a timestamp.
-fn versioned(handle: i64, ts: u64) -> Key {
-    Key(1, handle, Some(ts), 0)
-}
-
 fn add_change(alloc: Global, change: Change, into: &mut Vec<u8>) -> Result<(), Fail> {
     match change {
         Change::Put(handle, ts, record) => {
-            add_put(alloc, 3, versioned(handle, ts), bytes_of(record), into)
-        }
-        Change::Value(handle, start, row) => {
-            add_put(alloc, 1, versioned(handle, start), bytes_of(row), into)
-        }
-        Change::Drop(handle, start) => add_delete(alloc, 1, versioned(handle, start), into),
-        Change::Lock(handle, record) => {
-            add_put(alloc, 2, Key(1, handle, None, 0), bytes_of(record), into)
-        }
-        Change::PutCut(handle, lost) => {
-            add_put(alloc, 3, Key(1, handle, Some(10), lost), &[], into)
-        }
-        Change::DropCut(handle, lost) => {
-            add_delete(alloc, 1, Key(1, handle, Some(10), lost), into)
-        }
-        Change::Elsewhere(table, handle) => {
-            add_put(alloc, 3, Key(table, handle, Some(10), 0), &[], into)
+            add_key(key_of(alloc, handle, ts)?, into)?;
+            add_value(bytes_of(record), into)
         }
     }
 }
