@@ -88,7 +88,7 @@ read_at log lawful A ts mark asked n none = by (applied log A asked.region) refl
       answered = record { there = there (Prepared d target) d is refl refl; free = g.free };
     })
 
-each_passes : (log : Log) (A : ℕ → Bool) (ts mark : ℕ) (asked : AskRegion) (regions : List AskRegion) → refused_regions log ts regions A mark ≡ None → (k : ℕ) → k < length regions → slice_index_or regions k asked ≡ asked → refused_at log ts asked (next log A asked.region) mark (applied log A asked.region) ≡ None
+pub each_passes : (log : Log) (A : ℕ → Bool) (ts mark : ℕ) (asked : AskRegion) (regions : List AskRegion) → refused_regions log ts regions A mark ≡ None → (k : ℕ) → k < length regions → slice_index_or regions k asked ≡ asked → refused_at log ts asked (next log A asked.region) mark (applied log A asked.region) ≡ None
 each_passes log A ts mark asked [] e k less is = absurd (omega (arith, less))
 each_passes log A ts mark asked (a ∷ regions) e zero less is = subst (λ (z : AskRegion). refused_at log ts z (next log A z.region) mark (applied log A z.region) ≡ None) is (both_none (refused_at log ts a (next log A a.region) mark (applied log A a.region)) (refused_regions log ts regions A mark) e).0
 each_passes log A ts mark asked (a ∷ regions) e (suc k) less is = each_passes log A ts mark asked regions (both_none (refused_at log ts a (next log A a.region) mark (applied log A a.region)) (refused_regions log ts regions A mark) e).1 k (omega (arith, less)) is

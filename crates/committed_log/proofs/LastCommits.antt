@@ -7,8 +7,7 @@ use Rattle.std.proofs.lemmas.List.{map_push}
 use Rattle.column_block.specs.declared.column.Column.{Column}
 use Rattle.committed_log.specs.declared.op.LastCommit.{LastCommit}
 use Rattle.committed_log.specs.declared.unlawful.Unlawful.TheVariants as unlawful
-use Rattle.committed_log.specs.Admission.{backdated_fault, value_fault, unless}
-use Rattle.committed_log.specs.Families.{commit_fault}
+use Rattle.committed_log.specs.Admission.{backdated_fault, value_fault, commit_fault, unless}
 use Rattle.committed_log.specs.Store.{Commit, newer, candidate, newest, last_commit, is_delete, is_repeated, committed_value}
 use Rattle.committed_log.proofs.Faults.{both_none}
 use Rattle.committed_log.proofs.Positions.{fold_push}

@@ -16,11 +16,11 @@ use Rattle.log_codec.specs.declared.entry.Op.{Op}
 use Rattle.committed_log.specs.Applied.{left_at, has_index, place}
 use Rattle.committed_log.specs.Lawful.{IsLawful}
 use Rattle.committed_log.specs.Log.{Log, at}
-use Rattle.committed_log.specs.ReadIndex.{IsReadIndex, IsAnswered, commits_at, clears, clears_at, NoneClears}
-use Rattle.committed_log.specs.Reads.{shown}
+use Rattle.committed_log.specs.ReadIndex.{IsReadIndex, IsAnswered, clears, clears_at, NoneClears}
+use Rattle.committed_log.specs.Reads.{commits_at, shown}
 use Rattle.committed_log.specs.Regions.{Region, Unborn, region, range_of, index_of}
 use Rattle.committed_log.specs.Replies.{may_commit, blocks, first_lock}
-use Rattle.committed_log.specs.Store.{Store, Commit, Lock, lock, newer, candidate, newest, after_entry, after_ops, families_after, cleared}
+use Rattle.committed_log.specs.Store.{Store, Commit, Lock, lock, newer, candidate, newest, after_entry, after_ops, families_after, cleared, holds_some, clearing_of}
 use Rattle.committed_log.proofs.Commits.{ops_add}
 use Rattle.committed_log.proofs.Entries.{at_next, at_past}
 use Rattle.committed_log.proofs.Places.{rank_of_index, rank_there}
@@ -87,18 +87,10 @@ module _ (t : Commit → Bool) (h : ℤ) where
         theirs : (more : List Commit) → All (λ (c : Commit). c.position ≡ p) more → (c : Commit) → Contains more c → c.position ≡ p
         theirs more all c there = ap (λ (c : Commit). c.position) (sym there.2) ∙ all there.0 c there.1
 
-    abbrev owned_by : Option HandleRange → Bool
-    owned_by there = elim there [ None ↦ false | Some range ↦ holds range h ]
-
-    abbrev cleared_by : Option HandleRange → Body → Bool
-    cleared_by there body.Remove = owned_by there
-    cleared_by there (body.Install conf_ver version low high ops) = holds (record { low = low; high = high }) h
-    cleared_by there _ = false
-
     install_shows : (range : HandleRange) (ops : List Op) → holds range h ≡ false → NoneNew (after_ops table range p (cleared range s) ops) → newest t h (after_ops table range p (cleared range s) ops).commits ≡ newest t h s.commits
     install_shows range ops out none = ops_show range (cleared range s) ops none ∙ newest_cleared range out s.commits
 
-    families_show : (there : Option HandleRange) (b : Body) → cleared_by there b ≡ false → NoneNew (families_after table p there b s) → newest t h (families_after table p there b s).commits ≡ newest t h s.commits
+    families_show : (there : Option HandleRange) (b : Body) → holds_some (clearing_of there b) h ≡ false → NoneNew (families_after table p there b s) → newest t h (families_after table p there b s).commits ≡ newest t h s.commits
     families_show (Some range) (body.Write ops) out none = ops_show range s ops none
     families_show (Some range) body.Remove out none = newest_cleared range out s.commits
     families_show (Some range) (body.Install conf_ver version low high ops) out none = install_shows (record { low = low; high = high }) ops out none
@@ -116,18 +108,8 @@ module _ (t : Commit → Bool) (h : ℤ) where
     families_show None body.Remove out none = refl
     families_show None body.Empty out none = refl
 
-    clears_is : (r : ℕ) (b : Body) → clears s.regions h r b ≡ cleared_by (range_of (region s.regions r)) b
-    clears_is r body.Remove = refl
-    clears_is r (body.Install conf_ver version low high ops) = refl
-    clears_is r (body.Write ops) = refl
-    clears_is r (body.Open conf_ver version low high) = refl
-    clears_is r (body.Split middle child) = refl
-    clears_is r (body.Prepare target) = refl
-    clears_is r (body.Commit source) = refl
-    clears_is r body.Empty = refl
-
     pub entry_shows : (e : Entry) → clears s.regions h e.region e.body ≡ false → NoneNew (after_entry table p s e) → newest t h (after_entry table p s e).commits ≡ newest t h s.commits
-    entry_shows e out none = families_show (range_of (region s.regions e.region)) e.body (sym (clears_is e.region e.body) ∙ out) none
+    entry_shows e out none = families_show (range_of (region s.regions e.region)) e.body out none
 
   -- ---- several entries
 

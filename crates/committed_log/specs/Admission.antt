@@ -1,3 +1,4 @@
+-- To be believed.
 -- Which entry may follow a log, and what is wrong with the others: the first of these faults.
 use Rattle.std.specs.Prelude.{ℕ, suc, ◌^◌, ℤ, Bool, true, false, not, ◌&&◌, ◌||◌, Option, Some, None, Ok, Err, List, [], ◌∷◌, nat_lt, int_le, int_lt, ◌==◌, if◌then◌else◌, option_map, unwrap_or, fold, map}
 use Rattle.std.specs.Option.{option_or, option_and_then}
@@ -140,11 +141,15 @@ abbrev pub backdated_fault : Option LastCommit → ℕ → ℕ → Option Unlawf
 backdated_fault None ts k = None
 backdated_fault (Some c) ts k = unless (nat_lt c.ts ts) (unlawful.Backdated k c.ts)
 
+-- what is wrong with a commit, against the row's last one and what the default family has for it
+abbrev pub commit_fault : List Column → Option LastCommit → Option (List ℕ) → ℕ → ℕ → ℕ → Bool → Option (List ℕ) → Option Unlawful
+commit_fault schema last long k ts start gone short =
+    if is_repeated last ts start gone then None
+    else option_or (backdated_fault last ts k) (if gone then None else value_fault schema (committed_value gone short long) k)
+
 -- only a commit can be at fault: against the last commits of handles, and what the default family has
 abbrev pub change_fault : List Column → (ℤ → Option LastCommit) → List ((ℤ × ℕ) × List ℕ) → ℕ → FamilyOp → Option Unlawful
-change_fault schema last values k (change.Write h ts start gone short) =
-    if is_repeated (last h) ts start gone then None
-    else option_or (backdated_fault (last h) ts k) (if gone then None else value_fault schema (committed_value gone short (value values h start)) k)
+change_fault schema last values k (change.Write h ts start gone short) = commit_fault schema (last h) (value values h start) k ts start gone short
 change_fault schema last values k _ = None
 
 -- what is wrong with the op at place k of an entry

@@ -1,3 +1,4 @@
+-- To be believed.
 -- Which entries a replica has applied, and where that leaves the regions. Regions advance by themselves, as Raft groups do, so that entries needn't be applied in the order of the log. A set of positions is a test of them.
 use Rattle.std.specs.Prelude.{◌≡◌, ℕ, zero, suc, ◌<◌, Bool, true, false, not, ◌&&◌, ◌||◌, Option, Some, None, List, [], ◌∷◌, ◌++◌, IsTrue, nat_lt, ◌==◌, length, slice_get, filter, find, fold}
 use Rattle.std.specs.List.{list_all}

@@ -1,3 +1,4 @@
+-- To be believed.
 -- What an op means: the change that it makes to one of TiKV's column families.
 use Rattle.std.specs.Prelude.{ℕ, ℤ, true, false, Option, Some, None, Result, Ok, Err, List, if◌then◌else◌, option_map}
 use Rattle.flash_list.specs.Steps.{◌>>=◌}

@@ -1,3 +1,4 @@
+-- To be believed.
 -- The chain of a log: one SHA-256 digest for its header, and one for each entry behind it, of which each covers those before it.
 use Rattle.std.specs.Prelude.{ℕ, ℤ, List, ◌++◌, fold, map}
 use Rattle.sha2.specs.Sha256.{sha256}

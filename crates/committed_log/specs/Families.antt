@@ -1,15 +1,12 @@
+-- Admission's machinery.
 -- How the look-up tables of the families stand for a store, and what taking their changes back gives.
-use Rattle.std.specs.Prelude.{◌≡◌, ℕ, ℤ, Bool, Option, Some, None, List, [], ◌∷◌, ◌++◌, IsSome, if◌then◌else◌, cond}
+use Rattle.std.specs.Prelude.{◌≡◌, ℕ, ℤ, Option, Some, None, List, [], ◌∷◌, ◌++◌, IsSome, if◌then◌else◌, cond}
 use Rattle.std.specs.declared.cmp.Ordering.{Ordering}
 use Rattle.std.specs.Ordering.{int_cmp}
 use Rattle.std.specs.BTreeMap.{get, is_at}
 use Rattle.std.specs.List.Sorted.{IsStrictlySortedBy}
 use Rattle.std.specs.Map.{keys_of}
-use Rattle.std.specs.Option.{option_or}
-use Rattle.column_block.specs.declared.column.Column.{Column}
-use Rattle.committed_log.specs.Admission.{backdated_fault, value_fault}
-use Rattle.committed_log.specs.Store.{Store, value, value_cmp, last_commit, is_repeated, committed_value}
-use Rattle.committed_log.specs.declared.unlawful.Unlawful.{Unlawful}
+use Rattle.committed_log.specs.Store.{Store, value, value_cmp, last_commit}
 use Rattle.committed_log.specs.declared.op.LastCommit.{LastCommit}
 use Rattle.committed_log.specs.declared.families.Families.{Families}
 
@@ -23,12 +20,6 @@ pub record Holds (f : Families) (s : Store) : Type 0 where
   pub values : (h : ℤ) (start : ℕ) → held (get value_cmp f.values (h, start)) ≡ value s.values h start
   pub last : (h : ℤ) → get int_cmp f.last h ≡ last_commit s.commits h
   pub ordered : IsStrictlySortedBy value_cmp (keys_of s.values)
-
--- what is wrong with a commit, against the row's last one and what the default family has for it
-abbrev pub commit_fault : List Column → Option LastCommit → Option (List ℕ) → ℕ → ℕ → ℕ → Bool → Option (List ℕ) → Option Unlawful
-commit_fault schema last long k ts start gone short =
-    if is_repeated last ts start gone then None
-    else option_or (backdated_fault last ts k) (if gone then None else value_fault schema (committed_value gone short long) k)
 
 -- ---- taking back
 

@@ -1,3 +1,4 @@
+-- Admission's machinery.
 -- What a `Logs` is seen as, and what its look-up tables hold.
 use Rattle.std.specs.Prelude.{◌≡◌, ℕ, ℤ, List, nat_eq}
 use Rattle.std.specs.BTreeMap.{get as get_low}

@@ -1,3 +1,4 @@
+-- To be believed.
 -- Lawful logs.
 use Rattle.std.specs.Prelude.{◌≡◌, ◌⊎◌, ℕ, suc, ℤ, Option, Some, None, List, [], ◌∷◌, ◌++◌, length}
 use Rattle.column_block.specs.Schemas.{IsSchema}

@@ -1,3 +1,4 @@
+-- To be believed.
 -- What the laws of the row store speak of.
 use Rattle.std.specs.Prelude.{◌≡◌, ℕ, suc, ◌<◌, ◌≤◌, ℤ, Bool, true, false, ◌&&◌, Option, Some, None, List, ◌∷◌, ◌++◌, ◌==◌, ◌||◌, if◌then◌else◌, filter, map, length}
 use Rattle.std.specs.Ordering.{nat_cmp, int_cmp}
@@ -12,7 +13,7 @@ use Rattle.log_codec.specs.declared.entry.Body.{Body}
 use Rattle.log_codec.specs.declared.entry.Body.TheVariants as body
 use Rattle.log_codec.specs.declared.entry.Entry.{Entry}
 use Rattle.committed_log.specs.Regions.{Region, Unborn, Live, Prepared, Gone, region, range_of, index_of, makes_region, also_acted}
-use Rattle.committed_log.specs.Store.{Store, Lock, Commit, value_cmp}
+use Rattle.committed_log.specs.Store.{Store, Lock, Commit, value_cmp, holds_some}
 use Rattle.committed_log.specs.Log.{Log, at}
 use Rattle.committed_log.specs.Applied.{acts_at, left_at, applied, is_settled, first_numbers, entry_is}
 use Rattle.committed_log.specs.Applied as Applied
@@ -35,7 +36,7 @@ region_at log r p = region (at log p).regions r
 
 -- whether a region has the handle
 abbrev pub owned : Region → ℤ → Bool
-owned state h = elim (range_of state) [ None ↦ false | Some range ↦ holds range h ]
+owned state h = holds_some (range_of state) h
 
 abbrev pub owns : List (ℕ × Region) → ℕ → ℤ → Bool
 owns regions r h = owned (region regions r) h

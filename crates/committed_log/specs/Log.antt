@@ -1,3 +1,4 @@
+-- To be believed.
 -- The committed log of one table.
 use Rattle.std.specs.Prelude.{ℕ, ℤ, List, take}
 use Rattle.column_block.specs.declared.column.Column.{Column}

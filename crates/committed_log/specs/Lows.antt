@@ -1,3 +1,4 @@
+-- Admission's machinery.
 -- The low ends of the regions that are there, by which admission finds whose a handle is, and what an entry does to them.
 use Rattle.std.specs.Prelude.{◌≡◌, ℕ, ℤ, Bool, true, false, ◌==◌, int_le, int_lt, IsSome, Option, Some, None, List, if◌then◌else◌, option_map}
 use Rattle.std.specs.List.Sorted.{IsStrictlySortedBy}

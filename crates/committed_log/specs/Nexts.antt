@@ -1,3 +1,4 @@
+-- Admission's machinery.
 -- The positions of regions' next entries, as admission keeps them by region, and what one entry more does to them.
 use Rattle.std.specs.Prelude.{◌≡◌, ◌⊎◌, ℕ, ◌+◌, ◌-◌, Bool, false, ◌&&◌, ◌==◌, nat_le, Option, None, Some, List, [], ◌∷◌, ◌++◌, length, take, slice_get, option_map, if◌then◌else◌}
 use Rattle.std.specs.Option.{option_and_then}

@@ -1,3 +1,4 @@
+-- Admission's machinery.
 -- Indexes and epochs stay far below what a program's numbers hold.
 use Rattle.std.specs.Prelude.{ℕ, ◌^◌, ◌<◌, List}
 use Rattle.committed_log.specs.declared.region.Descriptor.{Descriptor}

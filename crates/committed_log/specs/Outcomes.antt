@@ -1,3 +1,4 @@
+-- Admission's machinery.
 -- What a call tells of an op where memory may run out.
 use Rattle.std.specs.Prelude.{◌≡◌, Bool, true, false, Option, Some, Result, Ok, Err, IsTrue}
 use Rattle.committed_log.specs.declared.change.ChangeError.{ChangeError}

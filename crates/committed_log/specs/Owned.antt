@@ -1,3 +1,4 @@
+-- Admission's machinery.
 -- Where the regions and the families lie.
 use Rattle.std.specs.Prelude.{◌≡◌, ℕ, ℤ, ◌+ℤ◌, pos, true, false, Option, Some, None, List}
 use Rattle.flash_types.specs.Ranges.{is_below}

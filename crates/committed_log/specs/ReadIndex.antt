@@ -1,18 +1,17 @@
+-- To be believed.
 -- Read indexes: an index of a region at which, once it is reached, a read at a timestamp misses nothing, as TiKV's leader gives it to a reader.
-use Rattle.std.specs.Prelude.{◌≡◌, ℕ, suc, ◌<◌, ◌≤◌, ℤ, Bool, true, false, Some, None, List, [], min, max}
+use Rattle.std.specs.Prelude.{◌≡◌, ℕ, suc, ◌<◌, ◌≤◌, ℤ, Bool, true, false, Some, None, List, min, max}
 use Rattle.std.specs.List.{Contains}
 use Rattle.flash_types.specs.Ranges.{holds}
 use Rattle.flash_types.specs.declared.ask.AskRegion.{AskRegion}
 use Rattle.flash_types.specs.declared.range.HandleRange.{HandleRange}
 use Rattle.flash_types.specs.declared.refusal.Cut.{Cut}
 use Rattle.log_codec.specs.declared.entry.Body.{Body}
-use Rattle.log_codec.specs.declared.entry.Body.TheVariants as body
 use Rattle.committed_log.specs.Applied.{entry_is, left_at, place, state, applied}
-use Rattle.committed_log.specs.Laws.{owns}
 use Rattle.committed_log.specs.Log.{Log, at}
-use Rattle.committed_log.specs.Regions.{Region, range_of}
+use Rattle.committed_log.specs.Regions.{Region, region, range_of}
 use Rattle.committed_log.specs.Replies.{may_commit, first_lock, locks_at, cut_of}
-use Rattle.committed_log.specs.Store.{Store, Commit, Lock, lock as lock_of}
+use Rattle.committed_log.specs.Store.{Store, Commit, Lock, lock as lock_of, holds_some, clearing_of}
 
 -- a transaction that began at most at the timestamp has the handle locked, and may commit
 pub record IsLocked (s : Store) (h : ℤ) (ts : ℕ) : Type 0 where
@@ -33,17 +32,11 @@ pub record IsAnswered (log : Log) (r index ts : ℕ) (range : HandleRange) : Typ
   pub there : range_of (state log r index) ≡ Some range
   pub free : first_lock (locks_at log r index) range ts ≡ None
 
--- the commits that a read of the region sees at this index
-abbrev pub commits_at : Log → ℕ → ℕ → List Commit
-commits_at log r index = elim (place log r index) [ None ↦ [] | Some p ↦ (at log (suc p)).commits ]
-
 -- ---- what is taken away
 
 -- whether an entry takes away what there is of a handle: a Remove of its region, or an Install over it
 abbrev pub clears : List (ℕ × Region) → ℤ → ℕ → Body → Bool
-clears regions h r body.Remove = owns regions r h
-clears regions h r (body.Install conf_ver version low high ops) = holds (record { low = low; high = high }) h
-clears regions h r _ = false
+clears regions h r b = holds_some (clearing_of (range_of (region regions r)) b) h
 
 abbrev pub clears_at : Log → ℤ → ℕ → Bool
 clears_at log h p = entry_is log (λ e. clears (at log p).regions h e.region e.body) p

@@ -1,3 +1,4 @@
+-- To be believed.
 -- What a read shows: Percolator's snapshot read.
 use Rattle.std.specs.Prelude.{ℕ, suc, ℤ, Bool, Option, Some, None, Ok, Err, List, [], nat_le, if◌then◌else◌, option_map, filter, find, flat_map}
 use Rattle.std.specs.Option.{option_and_then}
@@ -38,9 +39,12 @@ handles commits = keys_of (fold (λ (found : List (ℤ × Unit {0})) (c : Commit
 
 -- ---- reads of regions
 
--- the commits that a cut of a region can see: those up to the position of its index
+-- the commits that a read of a region sees at an index: those up to the position of the index
+abbrev pub commits_at : Log → ℕ → ℕ → List Commit
+commits_at log r index = elim (place log r index) [ None ↦ [] | Some p ↦ (at log (suc p)).commits ]
+
 abbrev pub commits_of : Log → Cut → List Commit
-commits_of log cut = elim (place log cut.region cut.index) [ None ↦ [] | Some p ↦ (at log (suc p)).commits ]
+commits_of log cut = commits_at log cut.region cut.index
 
 -- what the cut that holds the handle shows of it
 abbrev pub shown_by : Log → List Cut → ℕ → ℤ → Option (List ℕ)

@@ -1,3 +1,4 @@
+-- To be believed.
 -- Regions, as TiKV splits a table into them: each is a range of handles with a Raft log of its own. The epoch's version rises where the range changes, so that a reader sees that its idea of the range is old.
 use Rattle.std.specs.Prelude.{ℕ, ◌+◌, max, ℤ, Bool, true, false, Option, Some, None, List, [], ◌∷◌, ◌==◌, if◌then◌else◌, unwrap_or}
 use Rattle.std.specs.Ordering.{nat_cmp}

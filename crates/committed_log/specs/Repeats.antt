@@ -1,3 +1,4 @@
+-- To be believed.
 -- Which ops say again what their row's last commit says, as where an entry is proposed twice. They change nothing.
 use Rattle.std.specs.Prelude.{◌≡◌, ◌<◌, length, ℕ, suc, ℤ, Bool, false, Some, None, Ok, Err, List, [], ◌∷◌, ◌++◌, slice_get, if◌then◌else◌, take}
 use Rattle.flash_types.specs.declared.range.HandleRange.{HandleRange}

@@ -1,3 +1,4 @@
+-- To be believed.
 -- When a read is refused, and which reply to it is right.
 use Rattle.std.specs.Prelude.{◌≡◌, ℕ, suc, ℤ, Bool, true, false, ◌&&◌, Option, Some, None, List, [], ◌∷◌, nat_le, nat_lt, ◌==◌, if◌then◌else◌, find, map}
 use Rattle.std.specs.Option.{option_or}
@@ -18,7 +19,7 @@ use Rattle.committed_log.specs.declared.region.Descriptor.{Descriptor}
 use Rattle.committed_log.specs.Regions.{Region, Unborn, Live, Prepared, Gone}
 use Rattle.committed_log.specs.Store.{Lock}
 use Rattle.committed_log.specs.Log.{Log, at}
-use Rattle.committed_log.specs.Applied.{applied, next, place}
+use Rattle.committed_log.specs.Applied.{applied, next, place, unsettled}
 use Rattle.committed_log.specs.Reads.{rows, kept}
 
 -- ---- locks: a transaction that may commit below the read's timestamp is in its way, as in Percolator
@@ -51,7 +52,7 @@ same_epoch a b = a.conf_ver == b.conf_ver && a.version == b.version
 -- a region that isn't settled for the mark, whose next entry stands at this position
 abbrev pub unsettled_refusal : ℕ → ℕ → Option ℕ → ℕ → Option Refusal
 unsettled_refusal r index None mark = None
-unsettled_refusal r index (Some p) mark = if nat_lt p mark then Some (refusal.NotYet r (Some index) (wants.Mark p mark)) else None
+unsettled_refusal r index (Some p) mark = if unsettled (Some p) mark then Some (refusal.NotYet r (Some index) (wants.Mark p mark)) else None
 
 -- why a region that is there can't be read
 abbrev pub refused_there : Log → ℕ → AskRegion → Option ℕ → ℕ → Descriptor → Option Refusal

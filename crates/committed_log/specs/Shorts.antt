@@ -1,3 +1,4 @@
+-- Admission's machinery.
 -- Where a write record has its short value.
 use Rattle.std.specs.Prelude.{ℕ, ◌+◌, List, drop, nat_lt}
 use Rattle.std.specs.List.{position_or_len}

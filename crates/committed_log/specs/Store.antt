@@ -1,3 +1,4 @@
+-- To be believed.
 -- The row store: the regions, and TiKV's column families default, lock and write, folded over the entries of a log.
 use Rattle.std.specs.Prelude.{ℕ, suc, ℤ, Bool, true, false, not, ◌&&◌, Option, Some, None, Ok, Err, List, [], ◌∷◌, ◌++◌, nat_lt, ◌==◌, if◌then◌else◌, option_map, filter, fold, map, is_none}
 use Rattle.std.specs.Option.{option_or}
@@ -95,6 +96,16 @@ cleared range s = record s {
 }
 
 -- ---- entries
+
+-- whether there are handles, and this is one of them
+abbrev pub holds_some : Option HandleRange → ℤ → Bool
+holds_some there h = elim there [ None ↦ false | Some range ↦ holds range h ]
+
+-- the handles whose families an entry takes away, where its region has these: the region's for a Remove, its own range's for an Install
+abbrev pub clearing_of : Option HandleRange → Body → Option HandleRange
+clearing_of there body.Remove = there
+clearing_of there (body.Install conf_ver version low high ops) = Some (record { low = low; high = high })
+clearing_of there _ = None
 
 -- the families after an entry of a region, which has these handles where it is there: a split and a merge leave them, since they are kept by handle
 abbrev pub families_after : ℤ → ℕ → Option HandleRange → Body → Store → Store

@@ -1,3 +1,4 @@
+-- Admission's machinery.
 -- When the look-up tables are those of a store.
 use Rattle.std.specs.Prelude.{◌≡◌}
 use Rattle.committed_log.specs.Families.{Holds, IsSettled}

@@ -1,9 +1,9 @@
 // The check of an entry's ops against the families, each with the changes of those before it.
 ghost use Rattle.std.specs.Prelude.{◌≡◌, ◌<◌, ◌^◌, ◌++◌, ◌∷◌, if◌then◌else◌, ℕ, [], length, IfErr, OnOk, IfOk, None, option_copied, HoldsAt};
 ghost use Rattle.committed_log.specs.Store.{after_change, after_op, after_ops, last_commit, is_repeated, value};
-ghost use Rattle.committed_log.specs.Admission.{backdated_fault, value_fault, change_fault, op_fault, ops_fault_from};
+ghost use Rattle.committed_log.specs.Admission.{backdated_fault, value_fault, commit_fault, change_fault, op_fault, ops_fault_from};
 ghost use Rattle.committed_log.specs.Lawful.{IsRefusal};
-ghost use Rattle.committed_log.specs.Families.{Course, Holds, Returns, commit_fault};
+ghost use Rattle.committed_log.specs.Families.{Course, Holds, Returns};
 ghost use Rattle.committed_log.specs.declared.op.FamilyOp.TheVariants as change;
 ghost use Rattle.committed_log.specs.declared.unlawful.Unlawful.TheVariants as unlawful;
 ghost use Rattle.committed_log.specs.Repeats.{repeats_change, repeats_op, repeated_from};

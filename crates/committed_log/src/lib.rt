@@ -1,6 +1,7 @@
 //! The committed log of one table, and what a reader of the replica's theorems must believe: which
 //! logs are lawful, what they leave in TiKV's column families and regions, what a read is shown, and
-//! when it is refused. The definitions stand in `specs`; `docs/MODEL.md` tells them in prose.
+//! when it is refused. `docs/MODEL.md` tells the definitions in prose; `specs/Lib.antt` lists them
+//! first, and behind them those of admission's look-up tables, on which none of them rests.
 #![tactic(auto)]
 
 mod admit_head;

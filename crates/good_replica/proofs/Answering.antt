@@ -7,8 +7,7 @@ use Rattle.committed_log.specs.Applied.{IsClosed, acts_at, left_at, place, appli
 use Rattle.committed_log.specs.Lawful.{IsLawful}
 use Rattle.committed_log.specs.Laws.{owned, owns}
 use Rattle.committed_log.specs.Log.{Log, at}
-use Rattle.committed_log.specs.ReadIndex.{commits_at}
-use Rattle.committed_log.specs.Reads.{cells, shown}
+use Rattle.committed_log.specs.Reads.{cells, commits_at, shown}
 use Rattle.committed_log.specs.Regions.{range_of, index_of}
 use Rattle.committed_log.specs.declared.region.Region.TheVariants.{Unborn}
 use Rattle.committed_log.specs.declared.store.Commit.{Commit}

@@ -296,23 +296,9 @@ module _ (log : Log) (h : ℤ) (p : ℕ) where
   pub clears_held : clears_at log h p ≡ holds_some (clearing log p) h
   clears_held = by (slice_get log.entries p)
     where
-      owned_is : (o : Option HandleRange) → elim o [ None ↦ false | Some range ↦ holds range h ] ≡ holds_some o h
-      owned_is None = refl
-      owned_is (Some range) = refl
-
-      of_body : (r : ℕ) (b : Body) → clears (at log p).regions h r b ≡ holds_some (clearing_of (range_of (region (at log p).regions r)) b) h
-      of_body r body.Remove = owned_is (range_of (region (at log p).regions r))
-      of_body r (body.Install conf_ver version low high ops) = refl
-      of_body r (body.Open conf_ver version low high) = refl
-      of_body r (body.Split middle child) = refl
-      of_body r (body.Prepare target) = refl
-      of_body r (body.Commit source) = refl
-      of_body r (body.Write ops) = refl
-      of_body r body.Empty = refl
-
       by : (o : Option Entry) → elim o [ None ↦ false | Some e ↦ clears (at log p).regions h e.region e.body ] ≡ holds_some (elim o [ None ↦ None | Some e ↦ clearing_of (range_of (region (at log p).regions e.region)) e.body ]) h
       by None = refl
-      by (Some e) = of_body e.region e.body
+      by (Some e) = refl
 
 module _ (log : Log) (lawful : IsLawful log) (h : ℤ) where
   -- an entry that doesn't touch a handle doesn't clear it

@@ -4,10 +4,9 @@ use Rattle.column_block.specs.declared.cell.Version.{Version}
 use Rattle.flash_types.specs.Ranges.{holds}
 pub use Rattle.flash_types.specs.Ranges.{common, lower_end}
 use Rattle.flash_types.specs.declared.range.HandleRange.{HandleRange}
-use Rattle.log_codec.specs.declared.entry.Body.{Body}
-use Rattle.log_codec.specs.declared.entry.Body.TheVariants as body
 use Rattle.committed_log.specs.Log.{Log, at}
 use Rattle.committed_log.specs.Regions.{region, range_of}
+pub use Rattle.committed_log.specs.Store.{clearing_of, holds_some}
 use Rattle.committed_log.specs.declared.store.Commit.{Commit}
 use Rattle.good_replica.specs.Trail.{Segment, DeltaFile, Puts, Clears}
 use Rattle.good_replica.specs.Versions.{version_of}
@@ -17,17 +16,8 @@ abbrev pub added : Log → ℕ → List Version
 added log p = map (version_of log.schema) (filter (λ (c : Commit). c.position == p) (at log (suc p)).commits)
 
 -- The handles whose older versions it takes away: its region's for a Remove, its own range's for an Install.
-abbrev pub clearing_of : Option HandleRange → Body → Option HandleRange
-clearing_of there body.Remove = there
-clearing_of there (body.Install conf_ver version low high ops) = Some (record { low = low; high = high })
-clearing_of there _ = None
-
 abbrev pub clearing : Log → ℕ → Option HandleRange
 clearing log p = elim (slice_get log.entries p) [ None ↦ None | Some e ↦ clearing_of (range_of (region (at log p).regions e.region)) e.body ]
-
-abbrev pub holds_some : Option HandleRange → ℤ → Bool
-holds_some None h = false
-holds_some (Some range) h = holds range h
 
 -- ---- files, clipped to a segment
 

@@ -9,8 +9,8 @@ ghost use Rattle.flash_types.specs.declared.refusal.Cut.{Cut};
 ghost use Rattle.committed_log.specs.Laws.{AreRowsBy, CommitsRise};
 ghost use Rattle.committed_log.specs.Lawful.{IsLawful};
 ghost use Rattle.committed_log.specs.Log.{Log, at, end};
-ghost use Rattle.committed_log.specs.ReadIndex.{IsReadIndex, IsAnswered, IsReadAt, NoneClears, commits_at};
-ghost use Rattle.committed_log.specs.Reads.{row_of_handle, rows, rows_at_end, row_of, shown};
+ghost use Rattle.committed_log.specs.ReadIndex.{IsReadIndex, IsAnswered, IsReadAt, NoneClears};
+ghost use Rattle.committed_log.specs.Reads.{commits_at, row_of_handle, rows, rows_at_end, row_of, shown};
 ghost use Rattle.committed_log.specs.Replies.{first_lock, refused};
 ghost use Rattle.committed_log.specs.Store.{Lock};
 

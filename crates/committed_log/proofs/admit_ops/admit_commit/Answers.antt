@@ -1,6 +1,6 @@
 use Rattle.std.proofs.Common.{◌≡◌, ◌∙◌, sym, ap, w64, inr, false, None, option_copied}
 use Rattle.std.proofs.lemmas.Int.{to_z-of_z}
-use Rattle.committed_log.specs.Families.{commit_fault}
+use Rattle.committed_log.specs.Admission.{commit_fault}
 use Rattle.committed_log.specs.Store.{value, last_commit, is_repeated}
 use Rattle.committed_log.proofs.LastCommits.{is_newer, has_value}
 use Rattle.committed_log.proofs.FamilySteps.{returns_last}
