@@ -20,7 +20,8 @@ use Rattle.pack_codec.specs.declared.field.Field.TheVariants as field
 use Rattle.pack_codec.specs.declared.heads.Heads.{Heads}
 use Rattle.pack_codec.specs.Rows.{handles_in, stamps_in, marks_in, is_mark, is_gone, int_cell, uint_cell, text_cell, cell_at, is_null, may_have, null_from, version_at, versions_from}
 use Rattle.pack_codec.specs.Reading.{list_kind, column_in, heads_at, columns_at, width_at, ended, pack_at}
-use Rattle.pack_codec.specs.Spelling.{cell_of, int_in, uint_in, text_in, int_of, uint_of, text_of, list_of, columns_of, sized, counts, heads, pack, ListFits, HeadsFit, IsOfKind, CellsFit, Suits}
+use Rattle.pack_codec.specs.Spelling.{cell_of, int_in, uint_in, text_in, int_of, uint_of, text_of, list_of, columns_of, sized, counts, heads, pack, ListFits, HeadsFit}
+use Rattle.column_block.specs.Suiting.{IsOfKind, CellsFit, Suits}
 use Rattle.pack_codec.specs.Laws.{PacksAreReadAgain}
 use Rattle.pack_codec.proofs.FieldsAgain.{u16_again, u64_again, list_again}
 

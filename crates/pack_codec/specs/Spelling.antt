@@ -17,6 +17,7 @@ use Rattle.column_codec.specs.Laws.{Fits}
 use Rattle.pack_codec.specs.declared.field.Field.{Field}
 use Rattle.pack_codec.specs.declared.field.Field.TheVariants as field
 use Rattle.pack_codec.specs.Reading.{list_kind}
+pub use Rattle.column_block.specs.Suiting.{IsOfKind, CellsFit, Suits}
 
 -- ---- the lists of some versions
 
@@ -108,20 +109,3 @@ pub record PackFits (schema : List Column) (versions : List Version) : Type 0 wh
   pub count : length versions < 2 ^ 64
   pub heads : HeadsFit versions
   pub columns : AllByRecursion ListFits (columns_of schema 0 versions)
-
--- A cell is null or of the column's kind.
-abbrev pub IsOfKind : Kind → Cell → Type 0
-IsOfKind k cell.Null = Unit {0}
-IsOfKind k (cell.Int n) = k ≡ column_kind.Int
-IsOfKind k (cell.Uint n) = k ≡ column_kind.Uint
-IsOfKind k (cell.Bytes bytes) = k ≡ column_kind.Bytes
-
--- one cell for each column
-abbrev pub CellsFit : List Column → List Cell → Type 0
-CellsFit [] [] = Unit {0}
-CellsFit (column ∷ columns) (c ∷ cells) = IsOfKind column.kind c × CellsFit columns cells
-CellsFit _ _ = ⊥
-
--- A version fits a schema where it has one cell for each column, or where it is gone and has none.
-abbrev pub Suits : List Column → Version → Type 0
-Suits columns version = elim version.gone [ true ↦ version.cells ≡ [] | false ↦ CellsFit columns version.cells ]

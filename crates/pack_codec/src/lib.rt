@@ -13,7 +13,7 @@ mod write;
 
 pub use fault::FormError;
 pub use heads::Heads;
-pub use laws::packs_are_read_again;
+pub use laws::{packs_are_read_again, packs_have_one_spelling, packs_suit};
 pub use lists::here;
 pub use read::{ended, read_pack};
 pub use write::write_pack;
