@@ -2,12 +2,14 @@
 ghost use Rattle.std.specs.Prelude.{◌≡◌, ◌<◌, ◌+◌, List, Ok, ◌^◌, ◌∷◌, [], ◌++◌, ℕ, length, map, slice_index, nat_lt, OnOk, OnErr, IfOk};
 ghost use Rattle.std.specs.List.{list_any};
 ghost use Rattle.byteorder.specs.Endian.{little_bytes};
+ghost use Rattle.flash_put.specs.Appending.{Appends};
 ghost use Rattle.row_codec.specs.Rows.{Row, ids_of, row_at};
 ghost use Rattle.row_codec.specs.Numbers.{bytes_each};
 ghost use Rattle.row_codec.specs.Writing.{IsWritable, row_bytes, body_bytes, head_bytes, is_big, packed, ends_of, value_bytes, values_of, keys_of};
 
 use crate::numbers::Width;
 use flash_list::Bytes;
+use flash_put::put_bytes;
 use std::alloc::Global;
 use std::marker::Model;
 
@@ -78,20 +80,34 @@ impl RowWriter {
     }
 
     /// Appends the bytes of the row, in the big form exactly where an id is above 255 or the values
-    /// have more than 65,535 bytes. After `Err` a part of them may stand at the end.
-    #[tactic(auto, unfolding(crate::specs::Writing::row_bytes))]
+    /// have more than 65,535 bytes. After `Err` the bytes are as before.
     pub fn finish(&self, into: &mut Vec<u8>) -> Result<(), Memory>
-        ensures { OnOk result (into.new.items ≡ into.old.items ++ row_bytes self.now) }
+        ensures ok { OnOk result (into.new.items ≡ into.old.items ++ row_bytes self.now) }
+        ensures err { OnErr result (into.new.items ≡ into.old.items) }
     {
-        let fields = self.fields.as_slice();
-        let nulls = self.nulls.as_slice();
-        if is_big(fields, nulls) {
-            push_head(into, 1, fields.len() as u16, nulls.len() as u16)?;
-            return push_body(into, Width::Four, Width::Four, fields, nulls);
+        let len = into.len();
+        let written = push_row(into, self.fields.as_slice(), self.nulls.as_slice());
+        if written.is_err() {
+            into.truncate(len);
         }
-        push_head(into, 0, fields.len() as u16, nulls.len() as u16)?;
-        push_body(into, Width::One, Width::Two, fields, nulls)
+        written
     }
+}
+
+// The bytes of a row, or for want of memory a part of them at most.
+#[tactic(auto, using(flash_put::proofs::Appending::kept), unfolding(crate::specs::Writing::row_bytes))]
+fn push_row(into: &mut Vec<u8>, fields: &[(u32, Bytes)], nulls: &[u32]) -> Result<(), Memory>
+    requires { IsWritable (fields.now, nulls.now) }
+    ensures { Appends result into.old.items (row_bytes (fields.now, nulls.now)) into.new.items }
+{
+    if is_big(fields, nulls) {
+        push_head(into, 1, fields.len() as u16, nulls.len() as u16)?;
+        push_body(into, Width::Four, Width::Four, fields, nulls)?;
+        return Ok(());
+    }
+    push_head(into, 0, fields.len() as u16, nulls.len() as u16)?;
+    push_body(into, Width::One, Width::Two, fields, nulls)?;
+    Ok(())
 }
 
 // Whether the row needs the big form.
@@ -132,14 +148,17 @@ fn byte_count(fields: &[(u32, Bytes)]) -> u64
     total
 }
 
+#[tactic(auto, using(flash_put::proofs::Appending::kept))]
 fn push_head(into: &mut Vec<u8>, flags: u8, count: u16, null_count: u16) -> Result<(), Memory>
-    ensures { OnOk result (into.new.items ≡ into.old.items ++ head_bytes flags count null_count) }
+    ensures { Appends result into.old.items (head_bytes flags count null_count) into.new.items }
 {
     push(into, &[128, flags])?;
     push_number(into, Width::Two, count as u64)?;
-    push_number(into, Width::Two, null_count as u64)
+    push_number(into, Width::Two, null_count as u64)?;
+    Ok(())
 }
 
+#[tactic(auto, using(flash_put::proofs::Appending::kept))]
 fn push_body(
     into: &mut Vec<u8>,
     id: Width,
@@ -148,16 +167,18 @@ fn push_body(
     nulls: &[u32],
 ) -> Result<(), Memory>
     requires { value_bytes (fields.now, nulls.now) < 2 ^ 32 }
-    ensures { OnOk result (into.new.items ≡ into.old.items ++ body_bytes (bytes_each id) (bytes_each end) (fields.now, nulls.now)) }
+    ensures { Appends result into.old.items (body_bytes (bytes_each id) (bytes_each end) (fields.now, nulls.now)) into.new.items }
 {
     push_keys(into, id, fields)?;
     push_nulls(into, id, nulls)?;
     push_ends(into, end, fields)?;
-    push_values(into, fields)
+    push_values(into, fields)?;
+    Ok(())
 }
 
+#[tactic(auto, using(flash_put::proofs::Appending::kept))]
 fn push_keys(into: &mut Vec<u8>, width: Width, fields: &[(u32, Bytes)]) -> Result<(), Memory>
-    ensures { OnOk result (into.new.items ≡ into.old.items ++ packed (bytes_each width) (keys_of fields.now)) }
+    ensures { Appends result into.old.items (packed (bytes_each width) (keys_of fields.now)) into.new.items }
 {
     for field in fields {
         push_number(into, width, field.0 as u64)?;
@@ -165,8 +186,9 @@ fn push_keys(into: &mut Vec<u8>, width: Width, fields: &[(u32, Bytes)]) -> Resul
     Ok(())
 }
 
+#[tactic(auto, using(flash_put::proofs::Appending::kept))]
 fn push_nulls(into: &mut Vec<u8>, width: Width, nulls: &[u32]) -> Result<(), Memory>
-    ensures { OnOk result (into.new.items ≡ into.old.items ++ packed (bytes_each width) nulls.now) }
+    ensures { Appends result into.old.items (packed (bytes_each width) nulls.now) into.new.items }
 {
     for id in nulls {
         push_number(into, width, *id as u64)?;
@@ -174,10 +196,10 @@ fn push_nulls(into: &mut Vec<u8>, width: Width, nulls: &[u32]) -> Result<(), Mem
     Ok(())
 }
 
-#[tactic(auto, using(crate::proofs::Writing::ends_of_push))]
+#[tactic(auto, using(crate::proofs::Writing::ends_of_push, flash_put::proofs::Appending::kept))]
 fn push_ends(into: &mut Vec<u8>, width: Width, fields: &[(u32, Bytes)]) -> Result<(), Memory>
     requires { value_bytes (fields.now, []) < 2 ^ 32 }
-    ensures { OnOk result (into.new.items ≡ into.old.items ++ packed (bytes_each width) (ends_of 0 fields.now)) }
+    ensures { Appends result into.old.items (packed (bytes_each width) (ends_of 0 fields.now)) into.new.items }
 {
     let mut end: u64 = 0;
     for field in fields {
@@ -187,8 +209,9 @@ fn push_ends(into: &mut Vec<u8>, width: Width, fields: &[(u32, Bytes)]) -> Resul
     Ok(())
 }
 
+#[tactic(auto, using(flash_put::proofs::Appending::kept))]
 fn push_values(into: &mut Vec<u8>, fields: &[(u32, Bytes)]) -> Result<(), Memory>
-    ensures { OnOk result (into.new.items ≡ into.old.items ++ values_of fields.now) }
+    ensures { Appends result into.old.items (values_of fields.now) into.new.items }
 {
     for field in fields {
         push(into, field.1.as_slice())?;
@@ -198,15 +221,15 @@ fn push_values(into: &mut Vec<u8>, fields: &[(u32, Bytes)]) -> Result<(), Memory
 
 // Appends the lowest bytes of a number, little-endian.
 fn push_number(into: &mut Vec<u8>, width: Width, number: u64) -> Result<(), Memory>
-    ensures { OnOk result (into.new.items ≡ into.old.items ++ little_bytes (bytes_each width) number) }
+    ensures { Appends result into.old.items (little_bytes (bytes_each width) number) into.new.items }
 {
     push(into, &number.to_le_bytes()[..width.size()])
 }
 
 fn push(into: &mut Vec<u8>, bytes: &[u8]) -> Result<(), Memory>
-    ensures { OnOk result (into.new.items ≡ into.old.items ++ bytes.now) }
+    ensures { Appends result into.old.items bytes.now into.new.items }
 {
-    match into.extend_from_slice(bytes) {
+    match put_bytes(bytes, into) {
         Ok(()) => Ok(()),
         Err(_) => Err(Memory),
     }
