@@ -5,6 +5,6 @@ pub mod FieldSteps
 pub mod FieldsAgain
 pub mod PackAgain
 mod RowsBack
-mod SpelledFields
+pub mod SpelledFields
 pub mod SpelledPack
 pub mod Suiting
