@@ -8,6 +8,3 @@ mod parsing;
 
 pub use command::{Command, FamilyOps, Parsed};
 pub use parsing::parse;
-
-#[cfg(test)]
-mod tests;

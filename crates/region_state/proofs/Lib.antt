@@ -4,4 +4,5 @@ pub mod Uniting
 pub mod Lying
 pub mod Settling
 pub mod Folds
+pub mod Joining
 pub mod Undoing

@@ -174,6 +174,19 @@ module _ (s t : State) (w : IsWithin s.descriptor.range s.values s.locks) (v : I
   pub locks_apart : outside int_cmp t.locks s.locks ≡ s.locks
   locks_apart = apart (λ (k : ℤ). k) int_cmp exact_signed s.descriptor.range t.descriptor.range t.locks s.locks w.all_locks v.all_locks none_common
 
+  none_back : (h : ℤ) → holds t.descriptor.range h ≡ true → holds s.descriptor.range h ≡ false
+  none_back h in_it = by (holds s.descriptor.range h) refl
+    where
+      by : (b : Bool) → holds s.descriptor.range h ≡ b → holds s.descriptor.range h ≡ false
+      by true is = absurd (true≢false (sym in_it ∙ none_common h is))
+      by false is = is
+
+  pub values_apart_back : outside value_cmp s.values t.values ≡ t.values
+  values_apart_back = apart (λ (k : ℤ × ℕ). k.0) value_cmp value_exact t.descriptor.range s.descriptor.range s.values t.values v.all_values w.all_values none_back
+
+  pub locks_apart_back : outside int_cmp s.locks t.locks ≡ t.locks
+  locks_apart_back = apart (λ (k : ℤ). k) int_cmp exact_signed t.descriptor.range s.descriptor.range s.locks t.locks v.all_locks w.all_locks none_back
+
   module _ (filled : is_below s.descriptor.range.low s.descriptor.range.high ≡ true) (other_filled : is_below t.descriptor.range.low t.descriptor.range.high ≡ true) where
     abbrev all : HandleRange
     all = joined s.descriptor.range t.descriptor.range

@@ -11,6 +11,7 @@ use Rattle.flash_types.specs.declared.range.HandleRange.{HandleRange}
 use Rattle.committed_log.specs.Replies.{first_lock, may_commit}
 use Rattle.committed_log.specs.declared.store.Lock.{Lock}
 use Rattle.committed_log.specs.Store.{value_cmp}
+use Rattle.region_state.specs.Blocking.{blocks_at}
 
 pub filter_alike : {X : Type 0} (p q : X → Bool) → ((x : X) → p x ≡ q x) → (xs : List X) → filter p xs ≡ filter q xs
 filter_alike p q same xs = λ i. filter (λ x. same x i) xs
@@ -58,15 +59,29 @@ and_assoc true b c = refl
 and_assoc false b c = refl
 
 -- the first lock of a range is the first of the range's that is in the way
-pub first_of_part : (locks : List (ℤ × Lock)) (range : HandleRange) (ts : ℕ) → first_lock locks range ts ≡ find (λ (e : ℤ × Lock). may_commit e.1.kind && nat_le e.1.start ts) (filter (λ (e : ℤ × Lock). holds range e.0) locks)
+pub first_of_part : (locks : List (ℤ × Lock)) (range : HandleRange) (ts : ℕ) → first_lock locks range ts ≡ find (λ (e : ℤ × Lock). blocks_at ts e.1) (filter (λ (e : ℤ × Lock). holds range e.0) locks)
 first_of_part locks range ts =
     (λ i. find (λ (e : ℤ × Lock). and_assoc (holds range e.0) (may_commit e.1.kind) (nat_le e.1.start ts) i) locks)
-    ∙ sym (find_within (λ (e : ℤ × Lock). holds range e.0) (λ (e : ℤ × Lock). may_commit e.1.kind && nat_le e.1.start ts) locks)
+    ∙ sym (find_within (λ (e : ℤ × Lock). holds range e.0) (λ (e : ℤ × Lock). blocks_at ts e.1) locks)
 
 -- ---- the handles below one, and the others
 
 gt_is : (a h : ℤ) → is_gt (int_cmp a h) ≡ int_lt h a
 gt_is a h = grind (arith, ints)
+
+not_le_is : (a h : ℤ) → (true && not (is_le (int_cmp a h))) ≡ int_lt h a
+not_le_is a h = grind (arith, ints)
+
+and_true : (b : Bool) → (b && not false) ≡ b
+and_true true = refl
+and_true false = refl
+
+-- no handle is on both sides of one, and each is on one
+pub not_below : (at h : ℤ) → not (int_lt h at) ≡ int_le at h
+not_below at h = grind (arith, ints)
+
+pub not_from : (at h : ℤ) → not (int_le at h) ≡ int_lt h at
+not_from at h = grind (arith, ints)
 
 zero_gt : (s : ℕ) → is_gt (nat_cmp 0 s) ≡ false
 zero_gt zero = refl
@@ -97,8 +112,8 @@ module _ (a at : ℤ) (same : a ≡ at) where
   pub values_from : {X : Type 0} (values : List ((ℤ × ℕ) × X)) → entries_from (value_cmp (a, 0)) values ≡ filter (λ (e : (ℤ × ℕ) × X). int_le at e.0.0) values
   values_from {X} values = filter_alike (λ (e : (ℤ × ℕ) × X). is_le (value_cmp (a, 0) e.0)) (λ (e : (ℤ × ℕ) × X). int_le at e.0.0) (λ e. pair_le a e.0.0 e.0.1 ∙ ap (λ x. int_le x e.0.0) same) values
 
-  pub locks_below : {X : Type 0} (one locks : List (ℤ × X)) → one ≡ locks → entries_below (int_cmp a) one ≡ filter (λ (e : ℤ × X). int_lt e.0 at) locks
-  locks_below {X} one locks is = ap (entries_below (int_cmp a)) is ∙ filter_alike (λ (e : ℤ × X). is_gt (int_cmp a e.0)) (λ (e : ℤ × X). int_lt e.0 at) (λ e. gt_is a e.0 ∙ ap (int_lt e.0) same) locks
+  pub locks_below : {X : Type 0} (locks : List (ℤ × X)) → entries_between int_cmp Unbounded (Excluded a) locks ≡ filter (λ (e : ℤ × X). int_lt e.0 at) locks
+  locks_below {X} locks = filter_alike (λ (e : ℤ × X). true && not (is_le (int_cmp a e.0))) (λ (e : ℤ × X). int_lt e.0 at) (λ e. not_le_is a e.0 ∙ ap (int_lt e.0) same) locks
 
-  pub locks_from : {X : Type 0} (one locks : List (ℤ × X)) → one ≡ locks → entries_from (int_cmp a) one ≡ filter (λ (e : ℤ × X). int_le at e.0) locks
-  locks_from {X} one locks is = ap (entries_from (int_cmp a)) is ∙ filter_alike (λ (e : ℤ × X). is_le (int_cmp a e.0)) (λ (e : ℤ × X). int_le at e.0) (λ e. le_is a e.0 ∙ ap (λ x. int_le x e.0) same) locks
+  pub locks_from : {X : Type 0} (locks : List (ℤ × X)) → entries_between int_cmp (Included a) Unbounded locks ≡ filter (λ (e : ℤ × X). int_le at e.0) locks
+  locks_from {X} locks = filter_alike (λ (e : ℤ × X). is_le (int_cmp a e.0) && not false) (λ (e : ℤ × X). int_le at e.0) (λ e. and_true _ ∙ le_is a e.0 ∙ ap (λ x. int_le x e.0) same) locks

@@ -3,3 +3,5 @@ pub mod Folding
 pub mod Standing
 pub mod Settling
 pub mod Undoing
+pub mod Parting
+pub mod Blocking

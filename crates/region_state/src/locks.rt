@@ -1,7 +1,8 @@
 // Locks that are in the way of a read.
-ghost use Rattle.std.specs.Prelude.{◌≡◌, ◌&&◌, option_map, nat_le, find, filter};
+ghost use Rattle.std.specs.Prelude.{◌≡◌, option_map, filter};
 ghost use Rattle.flash_types.specs.Ranges.{holds};
 ghost use Rattle.committed_log.specs.Replies.{first_lock, may_commit};
+ghost use Rattle.region_state.specs.Blocking.{blocks_at};
 
 use crate::region::Locks;
 use committed_log::Lock;
@@ -23,7 +24,7 @@ fn may_commit(kind: LockKind) -> bool
 
 // A lock of a transaction that may commit at or below the timestamp.
 fn blocks(lock: Lock, ts: Ts) -> bool
-    ensures { result ≡ (may_commit lock.kind && nat_le lock.start ts) }
+    ensures { result ≡ blocks_at ts lock }
 {
     may_commit(lock.kind) && lock.start <= ts
 }

@@ -14,9 +14,9 @@ ghost use Rattle.region_state.specs.State.{born, prepared, IsWithin, lower_of, u
 
 use crate::advance::advance;
 use crate::locks::first_lock;
-use crate::parts::{lower_part, merged, part_values, parted_locks, upper_part};
+use crate::parts::{fewer_locks, lower_part, merged, part_locks, part_values, upper_part};
 use crate::plan::versions;
-use crate::union::{add_all, add_locks, take_out};
+use crate::union::unite;
 use column_block::{Block, Memory, Schema};
 use committed_log::{Descriptor, FamilyOp, Lock};
 use flash_types::{Epoch, Handle, HandleRange, RegionId, Ts};
@@ -258,8 +258,8 @@ impl Region {
     }
 
     /// Parts the region at a handle: it keeps the handles below, and the answer has the others, with
-    /// index 5 as TiKV's first one. Both get the next version of the epoch. After `Memory` the region
-    /// is as before.
+    /// index 5 as TiKV's first one. Both get the next version of the epoch. It costs no more than the
+    /// side that has fewer. After `Memory` the region is as before.
     pub fn split_off(&mut self, at: Handle, index: u64) -> Result<Region, Memory>
         requires above { int_lt self.old.descriptor.range.low at ≡ true }
         requires inside { holds self.old.descriptor.range at ≡ true }
@@ -268,12 +268,13 @@ impl Region {
         ensures upper { IfOk result (λ upper. upper ≡ upper_of self.old at) }
         ensures err { OnErr result (self.new ≡ self.old) }
     {
-        let Ok((locks, upper_locks)) = parted_locks(&self.locks, at) else {
+        let Ok(fewer) = fewer_locks(self.alloc, &self.locks, at) else {
             return Err(Memory);
         };
         let Ok(upper_values) = part_values(&mut self.values, at) else {
             return Err(Memory);
         };
+        let upper_locks = part_locks(&mut self.locks, at, fewer);
         let upper = Region {
             descriptor: upper_part(self.descriptor, at),
             target: None,
@@ -282,14 +283,13 @@ impl Region {
             alloc: self.alloc,
         };
         self.descriptor = lower_part(self.descriptor, at, index);
-        self.locks = locks;
         Ok(upper)
     }
 
     /// Takes the handles and the families of a region whose range touches this one's, where neither
     /// range is empty: the low end of an empty one may lie above the other's handles, which the joined
     /// range would lose. The version becomes the greater of both, plus 1, and the last index the
-    /// entry's. `Err` hands the other back for want of memory, and leaves both as they were.
+    /// entry's. It costs no more than the families that are fewer. `Err` hands the other back for want of memory, and leaves both as they were.
     pub fn absorb(&mut self, other: Region, index: u64) -> Result<(), Region>
         requires touch { touch self.old.descriptor.range other.descriptor.range ≡ true }
         requires filled { is_below self.old.descriptor.range.low self.old.descriptor.range.high ≡ true }
@@ -300,14 +300,25 @@ impl Region {
         ensures err { OnErr result (self.new ≡ self.old) }
         ensures back { IfErr result (λ back. back ≡ other) }
     {
-        let Ok(()) = add_all(&mut self.values, &other.values) else {
-            return Err(other);
-        };
-        let Ok(()) = add_locks(&mut self.locks, &other.locks) else {
-            take_out(&mut self.values, &other.values);
-            return Err(other);
-        };
-        self.descriptor = merged(self.descriptor, other.descriptor, index);
-        Ok(())
+        let Region {
+            descriptor,
+            target,
+            mut values,
+            mut locks,
+            alloc,
+        } = other;
+        match unite(&mut self.values, &mut self.locks, &mut values, &mut locks) {
+            Ok(()) => {
+                self.descriptor = merged(self.descriptor, descriptor, index);
+                Ok(())
+            }
+            Err(_) => Err(Region {
+                descriptor,
+                target,
+                values,
+                locks,
+                alloc,
+            }),
+        }
     }
 }

@@ -4,13 +4,15 @@ ghost use Rattle.std.specs.BTreeMap.{insert_entry, is_at};
 ghost use Rattle.std.specs.List.Sorted.{IsStrictlySortedBy};
 ghost use Rattle.std.specs.Map.{remove_entry, keys_of};
 ghost use Rattle.std.specs.Ordering.{int_cmp};
+ghost use Rattle.committed_log.specs.Store.{value_cmp};
 ghost use Rattle.region_state.specs.State.{united, outside};
 
-use crate::region::Locks;
+use crate::region::{Locks, Values};
 use column_block::Memory;
 use committed_log::Lock;
 use log_codec::OpBytes;
 use std::collections::BTreeMap;
+use std::mem::swap;
 
 /// What a second map can have too.
 pub trait Share: Sized {
@@ -88,11 +90,58 @@ pub fn add_all<K: Ord + Copy, V: Share + Drop>(
     Ok(())
 }
 
-/// Adds the locks of another region. After `Err` the locks are as before.
-pub fn add_locks(locks: &mut Locks, more: &Locks) -> Result<(), Memory>
-    requires { outside int_cmp more.now.entries locks.old.entries ≡ locks.old.entries }
-    ensures ok { OnOk result (locks.new.entries ≡ united int_cmp locks.old.entries more.now.entries) }
-    ensures err { OnErr result (locks.new.entries ≡ locks.old.entries) }
+// Adds the families of another region. After `Err` the families are as before.
+fn add_both(
+    values: &mut Values,
+    locks: &mut Locks,
+    more_values: &Values,
+    more_locks: &Locks,
+) -> Result<(), Memory>
+    requires values { outside value_cmp more_values.now.entries values.old.entries ≡ values.old.entries }
+    requires locks { outside int_cmp more_locks.now.entries locks.old.entries ≡ locks.old.entries }
+    ensures values { OnOk result (values.new.entries ≡ united value_cmp values.old.entries more_values.now.entries) }
+    ensures locks { OnOk result (locks.new.entries ≡ united int_cmp locks.old.entries more_locks.now.entries) }
+    ensures err_values { OnErr result (values.new.entries ≡ values.old.entries) }
+    ensures err_locks { OnErr result (locks.new.entries ≡ locks.old.entries) }
 {
-    add_all(locks, more)
+    let Ok(()) = add_all(values, more_values) else {
+        return Err(Memory);
+    };
+    let Ok(()) = add_all(locks, more_locks) else {
+        take_out(values, more_values);
+        return Err(Memory);
+    };
+    Ok(())
+}
+
+/// Puts the families of two regions together, those that are fewer into the others: it costs no more
+/// than the fewer ones. After `Err` all are as before.
+pub fn unite(
+    values: &mut Values,
+    locks: &mut Locks,
+    more_values: &mut Values,
+    more_locks: &mut Locks,
+) -> Result<(), Memory>
+    requires values { outside value_cmp more_values.old.entries values.old.entries ≡ values.old.entries }
+    requires locks { outside int_cmp more_locks.old.entries locks.old.entries ≡ locks.old.entries }
+    requires more_values { outside value_cmp values.old.entries more_values.old.entries ≡ more_values.old.entries }
+    requires more_locks { outside int_cmp locks.old.entries more_locks.old.entries ≡ more_locks.old.entries }
+    ensures values { OnOk result (values.new.entries ≡ united value_cmp values.old.entries more_values.old.entries) }
+    ensures locks { OnOk result (locks.new.entries ≡ united int_cmp locks.old.entries more_locks.old.entries) }
+    ensures err { OnErr result ((values.new.entries ≡ values.old.entries) × (locks.new.entries ≡ locks.old.entries)) }
+    ensures more { OnErr result ((more_values.new.entries ≡ more_values.old.entries) × (more_locks.new.entries ≡ more_locks.old.entries)) }
+{
+    let values_len = values.len();
+    let locks_len = locks.len();
+    let more_values_len = more_values.len();
+    let more_locks_len = more_locks.len();
+    if more_values_len + more_locks_len <= values_len + locks_len {
+        return add_both(values, locks, more_values, more_locks);
+    }
+    let Ok(()) = add_both(more_values, more_locks, values, locks) else {
+        return Err(Memory);
+    };
+    swap(values, more_values);
+    swap(locks, more_locks);
+    Ok(())
 }

@@ -1,12 +1,12 @@
-use Rattle.std.proofs.Common.{Some, find, ◌∙◌, sym, ap, option_map, ◌&&◌, nat_le, ℤ, w64, SFits, rules}
+use Rattle.std.proofs.Common.{Some, find, ◌∙◌, sym, ap, option_map, ℤ, w64, SFits, rules}
 use Rattle.std.proofs.lemmas.Int.{to_z-of_z}
-use Rattle.committed_log.specs.Replies.{may_commit}
 use Rattle.committed_log.specs.declared.store.Lock.{Lock}
+use Rattle.region_state.specs.Blocking.{blocks_at}
 use Rattle.region_state.proofs.Parting.{first_of_part, find_here, find_next, find_nothing}
 use Rattle.region_state.proofs.locks.first_lock.Goals as goal
 
 pub loop-handle-init : goal.loop-handle-init
-loop-handle-init c = first_of_part c.args.locks.now.entries c.args.range c.args.ts ∙ sym (ap (find (λ (e : ℤ × Lock). may_commit e.1.kind && nat_le e.1.start c.args.ts)) (c.into_iter-handle-iterator.ensures.into_iter_gives ∙ c.locks_in-handle-items.ensures))
+loop-handle-init c = first_of_part c.args.locks.now.entries c.args.range c.args.ts ∙ sym (ap (find (λ (e : ℤ × Lock). blocks_at c.args.ts e.1)) (c.into_iter-handle-iterator.ensures.into_iter_gives ∙ c.locks_in-handle-items.ensures))
 
 pub returns-then-blocks : goal.returns-then-blocks
 returns-then-blocks c =
