@@ -4,12 +4,15 @@ ghost use Rattle.std.specs.Ordering.{nat_cmp};
 ghost use Rattle.std.specs.List.Sorted.{IsStrictlySortedBy};
 ghost use Rattle.flash_io.specs.Image.{HasPart};
 
+use crate::opened::{Opened, Stamp, stamp_of};
 use crate::part::read_part;
-use crate::place::{Place, number_of};
+use crate::paths::number_of;
+use crate::place::Place;
+use crate::standing::{fault_of, unchanged};
 use flash_io::{DiskFault, FileId};
 use std::alloc::{AllocError, Global};
 use std::collections::BTreeSet;
-use std::fs::{File, OpenOptions};
+use std::fs::{DirEntry, File, OpenOptions};
 use std::io::ErrorKind;
 use std::os::unix::fs::FileExt;
 use std::rt::Files;
@@ -61,17 +64,29 @@ impl<R: Files<File = File> + AllocGlobal + Clone + Drop> Directory<R> {
         }
     }
 
-    /// Makes a new file. One that is there is removed before, so that no crash mixes the two.
-    pub fn create(&mut self, file: FileId, bytes: &[u8]) -> io::Result<()> {
-        self.place.hold(&self.rt)?;
-        self.last = None;
+    /// Makes a new file. One that is there is removed before, so that no crash mixes the two. From
+    /// then on each error is a failure.
+    pub fn create(&mut self, file: FileId, bytes: &[u8]) -> Result<(), DiskFault> {
+        unchanged(self.clear(file))?;
+        match self.make(file, bytes) {
+            Ok(()) => Ok(()),
+            Err(_) => Err(DiskFault::Failed),
+        }
+    }
+
+    // Removes the file where it is there. An error leaves it.
+    fn clear(&mut self, file: FileId) -> io::Result<()> {
+        match self.remove(file) {
+            Ok(()) => Ok(()),
+            Err(error) if error.kind() == ErrorKind::NotFound => Ok(()),
+            Err(error) => Err(error),
+        }
+    }
+
+    // Makes a file that isn't there.
+    fn make(&mut self, file: FileId, bytes: &[u8]) -> io::Result<()> {
         self.names_changed = true;
         let path = self.place.file_path(file)?;
-        if let Err(error) = fs::remove_file(&self.rt, path)
-            && error.kind() != ErrorKind::NotFound
-        {
-            return Err(error);
-        }
         let opened = OpenOptions::new()
             .read(true)
             .write(true)
@@ -82,8 +97,15 @@ impl<R: Files<File = File> + AllocGlobal + Clone + Drop> Directory<R> {
         Ok(())
     }
 
-    pub fn write_at(&mut self, file: FileId, at: u64, bytes: &[u8]) -> io::Result<()> {
-        self.open(file)?.write_all_at(bytes, at)
+    /// Writes over a part of a file. Once it is open each error is a failure.
+    pub fn write_at(&mut self, file: FileId, at: u64, bytes: &[u8]) -> Result<(), DiskFault> {
+        match self.open(file) {
+            Ok(opened) => match opened.write_all_at(bytes, at) {
+                Ok(()) => Ok(()),
+                Err(_) => Err(DiskFault::Failed),
+            },
+            Err(error) => Err(fault_of(&error)),
+        }
     }
 
     /// Appends a part of a file. An error leaves `into` as it was.
@@ -120,7 +142,14 @@ impl<R: Files<File = File> + AllocGlobal + Clone + Drop> Directory<R> {
     pub fn remove(&mut self, file: FileId) -> io::Result<()> {
         self.place.hold(&self.rt)?;
         self.last = None;
-        fs::remove_file(&self.rt, self.place.file_path(file)?)
+        let path = self.place.file_path(file)?;
+        for _ in 0..u64::MAX {
+            match fs::remove_file(&self.rt, path) {
+                Err(error) if error.kind() == ErrorKind::Interrupted => {}
+                answer => return answer,
+            }
+        }
+        Err(io::Error::from(ErrorKind::Interrupted))
     }
 
     /// The numbers of the files, rising.
@@ -132,7 +161,7 @@ impl<R: Files<File = File> + AllocGlobal + Clone + Drop> Directory<R> {
         for entry in fs::read_dir(&self.rt, self.place.dir())? {
             match entry {
                 Ok(entry) => {
-                    if let Some(file) = number_of(entry.file_name()) {
+                    if let Some(file) = number_of_entry(&entry)? {
                         numbers.insert(file)?;
                     }
                 }
@@ -144,10 +173,28 @@ impl<R: Files<File = File> + AllocGlobal + Clone + Drop> Directory<R> {
         Ok(in_order(alloc, &numbers)?)
     }
 
-    /// The file, open for reading.
-    pub fn grip(&mut self, file: FileId) -> io::Result<File> {
-        self.place.hold(&self.rt)?;
-        fs::open(&self.rt, self.place.file_path(file)?)
+    /// What tells the file from others that had its number.
+    pub fn grip(&mut self, file: FileId) -> io::Result<Stamp> {
+        Ok(stamp_of(&self.open(file)?.metadata()?))
+    }
+
+    /// What opens the files of grips, or None where there isn't memory for it.
+    pub fn opened(&self) -> Option<Opened<R>> {
+        Opened::new(&self.rt, self.place.dir()).ok()
+    }
+}
+
+// The number of a file, or None where this isn't a regular file that has the name of one.
+fn number_of_entry<R: Files<File = File> + AllocGlobal + Clone + Drop>(
+    entry: &DirEntry<R, Global>,
+) -> io::Result<Option<FileId>> {
+    let Some(file) = number_of(entry.file_name()) else {
+        return Ok(None);
+    };
+    if entry.file_type()?.is_file() {
+        Ok(Some(file))
+    } else {
+        Ok(None)
     }
 }
 
@@ -159,13 +206,4 @@ fn in_order(alloc: Global, numbers: &BTreeSet<FileId>) -> Result<Vec<FileId>, Al
         list.push(*file)?;
     }
     Ok(list)
-}
-
-/// What an error of the system is to a disk.
-pub fn fault_of(error: &io::Error) -> DiskFault {
-    if error.kind() == ErrorKind::OutOfMemory {
-        DiskFault::Memory
-    } else {
-        DiskFault::Failed
-    }
 }

@@ -1,25 +1,25 @@
 // A directory as a disk.
-ghost use Rattle.std.specs.Prelude.{◌≡◌, ◌≤◌, None, Ok, IfOk};
-ghost use Rattle.flash_io.specs.Faults.{Rose, HasCause};
-ghost use Rattle.flash_io.specs.DiskFaults.{HasDiskCause};
+ghost use Rattle.std.specs.Prelude.{◌≡◌, None, IfOk};
 
-use crate::directory::{Directory, fault_of};
+use crate::directory::Directory;
 use crate::reader::{HostGrip, HostReader};
+use crate::standing::{Standing, fault_of, unchanged};
 use flash_io::{Disk, DiskFault, Failed, FileId};
 use std::alloc::{AllocError, Global};
 use std::fs::File;
-use std::io;
 use std::rt::Files;
 
-/// A directory as a disk: the file of number n is named `f` and n as ten digits, and other names are
-/// passed over. It tells nothing of its content.
+/// A directory as a disk: the file of number n is the regular file that is named `f` and n as ten
+/// digits; other names are passed over, and so are directories and links of such a name. It tells
+/// nothing of its content.
 ///
 /// Nothing is done before the first call, which locks the file `lock` in the directory. A call
-/// fails where another holds that lock, or where the directory isn't there.
+/// fails where another holds that lock, or where the directory isn't there. Want of memory is
+/// `Memory` only where nothing was changed yet. Once a sync has failed, each later call fails.
 #[derive(Drop)]
 pub struct HostDisk<R: Files<File = File> + AllocGlobal + Clone + Drop> {
     directory: Directory<R>,
-    faults: u64,
+    standing: Standing,
     reader_faults: u64,
 }
 
@@ -30,50 +30,17 @@ impl<R: Files<File = File> + AllocGlobal + Clone + Drop> HostDisk<R> {
     {
         Ok(HostDisk {
             directory: Directory::new(rt, dir)?,
-            faults: 0,
+            standing: Standing {
+                faults: 0,
+                lost: false,
+            },
             reader_faults: 0,
         })
     }
 }
 
-// The answer of a call whose only error is a fault, which is counted.
-fn failed<T: Drop>(faults: &mut u64, answer: io::Result<T>) -> Result<T, Failed>
-    ensures { HasCause faults.old faults.new result }
-{
-    match answer {
-        Ok(value) => Ok(value),
-        Err(_) => {
-            *faults = faults.saturating_add(1);
-            Err(Failed)
-        }
-    }
-}
-
-// The answer of a call that may also want memory, which isn't counted.
-fn faulted<T: Drop>(faults: &mut u64, answer: io::Result<T>) -> Result<T, DiskFault>
-    ensures cause { HasDiskCause faults.old faults.new result }
-    ensures value { IfOk result (λ value. answer ≡ Ok value) }
-{
-    match answer {
-        Ok(value) => Ok(value),
-        Err(error) => Err(counted(faults, fault_of(&error))),
-    }
-}
-
-// The fault, counted where it isn't want of memory.
-fn counted(faults: &mut u64, fault: DiskFault) -> DiskFault
-    ensures fault { result ≡ fault }
-    ensures count { (faults.old ≤ faults.new) × (fault ≡ DiskFault.Failed → Rose faults.old faults.new) }
-    ensures memory { fault ≡ DiskFault.Memory → faults.new ≡ faults.old }
-{
-    if fault == DiskFault::Failed {
-        *faults = faults.saturating_add(1);
-    }
-    fault
-}
-
 impl<R: Files<File = File> + AllocGlobal + Clone + Drop> Disk for HostDisk<R> {
-    type Reader = HostReader;
+    type Reader = HostReader<R>;
 
     ghost tells = { ⊥ };
 
@@ -85,7 +52,7 @@ impl<R: Files<File = File> + AllocGlobal + Clone + Drop> Disk for HostDisk<R> {
 
     ghost left_since = { λ _ _ _. ⊥ };
 
-    ghost fault_count = { λ disk. disk.faults };
+    ghost fault_count = { λ disk. disk.standing.faults };
 
     ghost never_fails = { λ _. ⊥ };
 
@@ -106,13 +73,15 @@ impl<R: Files<File = File> + AllocGlobal + Clone + Drop> Disk for HostDisk<R> {
     ghost tells_grips = { λ tells. tells };
 
     fn create(&mut self, file: FileId, bytes: &[u8]) -> Result<(), DiskFault> {
+        self.standing.enter()?;
         let answer = self.directory.create(file, bytes);
-        faulted(&mut self.faults, answer)
+        self.standing.faulted(answer)
     }
 
     fn write_at(&mut self, file: FileId, at: u64, bytes: &[u8]) -> Result<(), DiskFault> {
+        self.standing.enter()?;
         let answer = self.directory.write_at(file, at, bytes);
-        faulted(&mut self.faults, answer)
+        self.standing.faulted(answer)
     }
 
     fn read(
@@ -122,49 +91,56 @@ impl<R: Files<File = File> + AllocGlobal + Clone + Drop> Disk for HostDisk<R> {
         len: u32,
         into: &mut Vec<u8>,
     ) -> Result<usize, DiskFault> {
-        match self.directory.read(file, at, len, into) {
-            Ok(count) => Ok(count),
-            Err(fault) => Err(counted(&mut self.faults, fault)),
-        }
+        self.standing.enter()?;
+        let answer = self.directory.read(file, at, len, into);
+        self.standing.faulted(answer)
     }
 
     fn len(&mut self, file: FileId) -> Result<u64, Failed> {
+        self.standing.enter()?;
         let answer = self.directory.len(file);
-        failed(&mut self.faults, answer)
+        self.standing.failed(answer)
     }
 
     fn sync(&mut self, file: FileId) -> Result<(), Failed> {
+        self.standing.enter()?;
         let answer = self.directory.sync(file);
-        failed(&mut self.faults, answer)
+        self.standing.synced(answer)
     }
 
     fn remove(&mut self, file: FileId) -> Result<(), Failed> {
+        self.standing.enter()?;
         let answer = self.directory.remove(file);
-        failed(&mut self.faults, answer)
+        self.standing.failed(answer)
     }
 
     fn list(&mut self, alloc: Global) -> Result<Vec<FileId>, DiskFault> {
+        self.standing.enter()?;
         match self.directory.list(alloc) {
             Ok(list) => Ok(list),
-            Err(error) => Err(counted(&mut self.faults, fault_of(&error))),
+            Err(error) => self.standing.faulted(Err(fault_of(&error))),
         }
     }
 
     fn grip(&mut self, file: FileId) -> Result<HostGrip, DiskFault> {
-        let answer = self.directory.grip(file);
-        let file = faulted(&mut self.faults, answer)?;
-        Ok(HostGrip { file })
+        self.standing.enter()?;
+        let answer = unchanged(self.directory.grip(file));
+        let stamp = self.standing.faulted(answer)?;
+        Ok(HostGrip { file, stamp })
     }
 
-    fn reader(&self) -> HostReader {
-        HostReader { faults: 0 }
+    fn reader(&self) -> HostReader<R> {
+        HostReader {
+            opened: self.directory.opened(),
+            faults: 0,
+        }
     }
 
-    fn retire(&mut self, reader: HostReader) {
+    fn retire(&mut self, reader: HostReader<R>) {
         self.reader_faults = self.reader_faults.saturating_add(reader.faults);
     }
 
     fn faults(&self) -> u64 {
-        self.faults
+        self.standing.faults
     }
 }

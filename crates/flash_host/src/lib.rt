@@ -4,9 +4,12 @@
 
 mod directory;
 mod disk;
+mod opened;
 mod part;
+mod paths;
 mod place;
 mod reader;
+mod standing;
 mod stream;
 
 pub use disk::HostDisk;

@@ -1,9 +1,12 @@
 // Reading a part of a file.
 ghost use Rattle.std.specs.Prelude.{◌≡◌, ◌≤◌, ◌++◌, IfOk, OnErr};
+ghost use Rattle.std.specs.Io.{ReadsAtMost};
 ghost use Rattle.flash_io.specs.Image.{HasPart};
 
 use flash_io::DiskFault;
 use std::fs::File;
+use std::io;
+use std::io::ErrorKind;
 use std::os::unix::fs::FileExt;
 
 // The bytes that are asked for at a time.
@@ -53,7 +56,7 @@ fn append_some(file: &File, at: u64, room: usize, into: &mut Vec<u8>) -> Result<
         return Err(DiskFault::Memory);
     };
     into.resize(end, 0)?;
-    match file.read_at(&mut into[start..], at) {
+    match read_once(file, at, &mut into[start..]) {
         Ok(count) => {
             into.truncate(start + count);
             Ok(count)
@@ -63,4 +66,17 @@ fn append_some(file: &File, at: u64, room: usize, into: &mut Vec<u8>) -> Result<
             Err(DiskFault::Failed)
         }
     }
+}
+
+// One read of a file, tried again where a signal came in between.
+fn read_once(file: &File, at: u64, into: &mut [u8]) -> io::Result<usize>
+    ensures { ReadsAtMost result into.new }
+{
+    for _ in 0..u64::MAX {
+        match file.read_at(into, at) {
+            Err(error) if error.kind() == ErrorKind::Interrupted => {}
+            answer => return answer,
+        }
+    }
+    Err(io::Error::from(ErrorKind::Interrupted))
 }

@@ -1,8 +1,36 @@
 // Readers and writers of std as sources and sinks.
 ghost use Rattle.std.specs.Prelude.{◌≡◌, None};
+ghost use Rattle.std.specs.Io.{ReadsAtMost, WritesAtMost};
 
 use flash_io::{Failed, Sink, Source};
-use std::io::{Read, Write};
+use std::io;
+use std::io::{ErrorKind, Read, Write};
+
+// One read, tried again where a signal came in between.
+fn read_once<F: Read>(file: &mut F, into: &mut [u8]) -> io::Result<usize>
+    ensures { ReadsAtMost result into.new }
+{
+    for _ in 0..u64::MAX {
+        match file.read(into) {
+            Err(error) if error.kind() == ErrorKind::Interrupted => {}
+            answer => return answer,
+        }
+    }
+    Err(io::Error::from(ErrorKind::Interrupted))
+}
+
+// One write, tried again where a signal came in between.
+fn write_once<W: Write>(writer: &mut W, from: &[u8]) -> io::Result<usize>
+    ensures { WritesAtMost result from.now }
+{
+    for _ in 0..u64::MAX {
+        match writer.write(from) {
+            Err(error) if error.kind() == ErrorKind::Interrupted => {}
+            answer => return answer,
+        }
+    }
+    Err(io::Error::from(ErrorKind::Interrupted))
+}
 
 /// A reader as a source. It tells nothing of what is left.
 #[derive(Drop)]
@@ -28,7 +56,7 @@ impl<F: Read> Source for HostSource<F> {
 
     fn read(&mut self, into: &mut [u8]) -> Result<usize, Failed> {
         if let Some(file) = &mut self.file
-            && let Ok(count) = file.read(into)
+            && let Ok(count) = read_once(file, into)
         {
             return Ok(count);
         }
@@ -60,7 +88,7 @@ impl<W: Write> Sink for HostSink<W> {
     ghost fault_count = { λ sink. sink.faults };
 
     fn write(&mut self, from: &[u8]) -> Result<usize, Failed> {
-        if let Ok(count) = self.writer.write(from)
+        if let Ok(count) = write_once(&mut self.writer, from)
             && (count > 0 || from.is_empty())
         {
             return Ok(count);

@@ -3,8 +3,16 @@ use flash_io::{Disk, DiskFault, Reader};
 use std::alloc::Global;
 use std::fs;
 use std::fs::File;
+use std::os::unix::fs::symlink;
 use std::rt::Files;
 use std::test::*;
+
+// A disk whose threads may each have a reader, and share the grips.
+fn serves_threads<D: Disk + Send>(_disk: &D)
+where
+    D::Reader: Send,
+    <D::Reader as Reader>::Grip: Send + Sync,
+{}
 
 // What a disk in a directory gave, beside another in the same directory.
 #[derive(Drop)]
@@ -52,6 +60,8 @@ fn a_directory_is_a_disk_for_one(rt: HostRuntime) {
     let _ = fs::remove_dir_all(&rt, "disk_of_the_test");
     assert!(rt; fs::create_dir(&rt, "disk_of_the_test").is_ok());
     assert!(rt; fs::write(&rt, "disk_of_the_test/other", b"passed over").is_ok());
+    assert!(rt; fs::create_dir(&rt, "disk_of_the_test/f0000000005").is_ok());
+    assert!(rt; symlink(&rt, "other", "disk_of_the_test/f0000000006").is_ok());
     let given = run_calls(&rt, "disk_of_the_test").expect(&rt, "no fault");
     assert_eq!(rt; given.files.as_slice(), [3u32].as_slice());
     assert_eq!(rt; given.bytes.as_slice(), b"xyz".as_slice());
@@ -65,6 +75,7 @@ fn a_directory_is_a_disk_for_one(rt: HostRuntime) {
 #[test]
 fn a_missing_directory_fails_at_the_first_call(rt: HostRuntime) {
     let mut disk = HostDisk::new(&rt, "no_such_directory").expect(&rt, "room");
+    serves_threads(&disk);
     assert!(rt; disk.list(rt.alloc()).is_err());
     assert_eq!(rt; disk.faults(), 1);
 }

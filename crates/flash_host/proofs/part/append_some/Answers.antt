@@ -9,11 +9,11 @@ returns-in-Ok-clause-appended c =
     let at : c.len-start.result ≡ length old = search rules in
     let later : c.len-start.result ≤ c.in-Some.end = search rules in
     let front : take c.len-start.result whole ≡ old = resized_front old _ whole c.len-start.result c.in-Some.end at later (c.deref_mut.ensures.value ∙ c.in_ok-resize.ensures.items) in
-    let few : c.in-Ok.count ≤ length c.read_at.new.buf = search rules in
+    let few : c.in-Ok.count ≤ length c.read_once.new.into = search rules in
     let fewer : c.in-Ok.count ≤ c.args.room = search rules in
     let within : c.len-start.result + c.in-Ok.count ≤ c.resize.new.self.len = search (rules, fewer) in (
-      take c.in-Ok.count c.read_at.new.buf,
-      c.truncate.ensures.items ∙ tail_read old c.read_at.new.buf _ _ whole c.len-start.result c.in-Ok.count c.resize.new.self.len at front few within,
-      omega (arith, length-take c.in-Ok.count c.read_at.new.buf, few),
+      take c.in-Ok.count c.read_once.new.into,
+      c.truncate.ensures.items ∙ tail_read old c.read_once.new.into _ _ whole c.len-start.result c.in-Ok.count c.resize.new.self.len at front few within,
+      omega (arith, length-take c.in-Ok.count c.read_once.new.into, few),
       fewer,
     )
