@@ -24,3 +24,5 @@ pub mod Checking
 pub mod Covering
 pub mod Joining
 pub mod Installing
+pub mod Scanned
+pub mod Added

@@ -1,5 +1,5 @@
 -- What applying an entry adds to a replica's files and clears there.
-use Rattle.std.specs.Prelude.{ℕ, suc, ℤ, Bool, false, Option, Some, None, List, [], ◌∷◌, ◌++◌, ◌==◌, filter, map, slice_get}
+use Rattle.std.specs.Prelude.{ℕ, suc, Option, Some, None, List, [], ◌∷◌, ◌++◌, ◌==◌, filter, map, slice_get}
 use Rattle.column_block.specs.declared.cell.Version.{Version}
 use Rattle.flash_types.specs.Ranges.{holds}
 pub use Rattle.flash_types.specs.Ranges.{common, lower_end}

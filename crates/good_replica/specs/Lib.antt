@@ -6,3 +6,4 @@ pub mod Effect
 pub mod Shows
 pub mod Changed
 pub mod Check
+pub mod Shown

@@ -16,10 +16,14 @@ pub use handles::{
     collections_are_untold, front_goes_down, lone_deletes_go, mark_goes_up,
     packing_anew_shows_same, safe_point_goes_up,
 };
-pub use reads::{settled_regions_show_rows, untouched_rows_stay, versions_show_one_row};
+pub use reads::{
+    good_handles_give_the_rows, settled_regions_show_rows, untouched_rows_stay,
+    versions_show_one_row,
+};
 pub use replicas::{
-    applied_entries_are_absorbed, empty_segments_are_good, fronts_follow_touches,
-    installs_keep_replicas_good, longer_logs_serve, marks_and_safe_points_rise, segments_give_way,
+    added_versions_suit, applied_entries_are_absorbed, empty_segments_are_good,
+    fronts_follow_touches, installs_keep_replicas_good, longer_logs_serve,
+    marks_and_safe_points_rise, segments_give_way,
 };
 pub use segments::{
     clipped_files_say_nothing, segments_go_on_to_cover, segments_join, segments_merge_deltas,

@@ -1,5 +1,7 @@
 // What keeps the segments of a replica good.
 ghost use Rattle.std.specs.Prelude.{◌≡◌, ◌≤◌, ◌<◌, ◌++◌, ℕ, suc, ℤ, Bool, true, false, Some, List, [], ◌∷◌, map, length};
+ghost use Rattle.std.specs.List.{All};
+ghost use Rattle.column_block.specs.Suiting.{Suits};
 ghost use Rattle.flash_types.specs.Ranges.{is_below};
 ghost use Rattle.flash_types.specs.declared.range.HandleRange.{HandleRange};
 ghost use Rattle.log_codec.specs.declared.entry.Entry.{Entry};
@@ -20,6 +22,11 @@ pub fn applied_entries_are_absorbed()
         EachGood log A m safe segments → EachGood log (with_position A p) m safe (map (absorbed (clearing log p) (added log p)) segments) }
     ensures all { (log : Log) → IsLawful log → (A : ℕ → Bool) → IsClosed log A → (p : ℕ) → A p ≡ false → IsClosed log (with_position A p) → (m safe : ℕ) (segments : List Segment) →
         AreGood log A m safe segments → AreGood log (with_position A p) m safe (map (absorbed (clearing log p) (added log p)) segments) }
+{}
+
+/// The versions that an entry adds suit the log's columns.
+pub fn added_versions_suit()
+    ensures { (log : Log) → IsLawful log → (p : ℕ) → All (Suits log.schema) (added log p) }
 {}
 
 /// An applied entry that touches a handle is the last of those that do, and its position and one

@@ -1,0 +1,12 @@
+pub mod Small
+pub mod Prefix
+pub mod Apart
+pub mod Born
+pub mod Granted
+pub mod Refused
+pub mod Unique
+pub mod Found
+pub mod Onward
+pub mod Digests
+pub mod Committed
+pub mod Fitting
