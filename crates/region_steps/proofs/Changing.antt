@@ -73,7 +73,7 @@ module _ (log : Log) (lawful : IsLawful log) (p : ℕ) (e : Entry) (is : slice_g
   own = region s.regions e.region
 
   -- the regions after the entry of a live region with this body
-  live_next : (d : Descriptor) → own ≡ Live d → (b : Body) → e.body ≡ b → (q : ℕ) → region (at log (suc p)).regions q ≡ region (live_after e.region d e.index b s.regions) q
+  pub live_next : (d : Descriptor) → own ≡ Live d → (b : Body) → e.body ≡ b → (q : ℕ) → region (at log (suc p)).regions q ≡ region (live_after e.region d e.index b s.regions) q
   live_next d there b same q = ap (λ (u : Store). region u.regions q) (at_next log p e is)
       ∙ ap (λ (r : Region). region (regions_step r e s.regions) q) there
       ∙ ap (λ (b : Body). region (live_after e.region d e.index b s.regions) q) same

@@ -4,3 +4,5 @@ pub mod Ops
 pub mod All
 pub mod Folding
 pub mod Changing
+pub mod Unions
+pub mod Merging
