@@ -1,1 +1,3 @@
 mod TinyAgain
+mod TinySpelled
+pub mod TinySuiting
