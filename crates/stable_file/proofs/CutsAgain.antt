@@ -9,9 +9,11 @@ use Rattle.std.proofs.lemmas.Nat.{div-add-mod'}
 use Rattle.std.proofs.Math.Nat.{suc-mul, mod-lt}
 use Rattle.column_block.specs.declared.column.Column.{Column}
 use Rattle.column_block.specs.declared.cell.Version.{Version}
-use Rattle.pack_codec.specs.Spelling.{pack, PackFits, Suits}
+use Rattle.pack_codec.specs.Spelling.{pack, PackFits}
+use Rattle.column_block.specs.Suiting.{Suits}
 use Rattle.pack_codec.proofs.PackAgain.{packs_again}
-use Rattle.stable_file.specs.Packs.{is_before, rise_after, rise, versions_in}
+use Rattle.stable_file.specs.Packs.{versions_in}
+use Rattle.column_block.specs.Order.{is_before, rise_after, rise}
 use Rattle.stable_file.specs.Ranges.{told_at, told_in, reached}
 use Rattle.stable_file.specs.Building.{first_cuts, packs_for, cuts, magic, footer, ending, file_of}
 use Rattle.stable_file.specs.Laws.{told, AllStand, IsReadAgain, IsAsTold, AreFull, BuiltPacksAreReadAgain}

@@ -10,7 +10,8 @@ use Rattle.column_block.specs.declared.cell.Version.{Version}
 use Rattle.column_codec.specs.Numbers.{AllFit}
 use Rattle.pack_codec.specs.declared.field.Field.TheVariants as field
 use Rattle.pack_codec.specs.declared.fault.FormError.TheVariants.{Damaged}
-use Rattle.pack_codec.specs.Spelling.{pack, PackFits, Suits, ListFits, int_of, columns_of}
+use Rattle.pack_codec.specs.Spelling.{pack, PackFits, ListFits, int_of, columns_of}
+use Rattle.column_block.specs.Suiting.{Suits}
 use Rattle.pack_codec.proofs.FieldsAgain.{u32_again, u64_again}
 use Rattle.stable_file.specs.declared.pack.Pack.{Pack}
 use Rattle.stable_file.specs.declared.pack.Before.{Before}

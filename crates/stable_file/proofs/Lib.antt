@@ -9,3 +9,8 @@ mod OrderAgain
 mod EntriesAgain
 mod TailAgain
 pub mod Outside
+mod Counting
+pub mod SieveRanges
+mod SpelledFooter
+pub mod Tails
+pub mod ToldPacks

@@ -18,7 +18,7 @@ use Rattle.stable_file.specs.Building.{bits, number, numbers, handle}
 
 -- ---- a number in 64 bits
 
-bits_signed : (z : ℤ) → FitsSigned w64 z → bits z ≡ cast_unsigned w64 z
+pub bits_signed : (z : ℤ) → FitsSigned w64 z → bits z ≡ cast_unsigned w64 z
 unfolding bits
 bits_signed (pos n) fits = omega (arith, fits.sfits)
 bits_signed (negsuc n) fits = omega (arith, fits.sfits)

@@ -11,7 +11,7 @@ use Rattle.column_block.specs.declared.cell.Version.{Version}
 use Rattle.column_codec.specs.Numbers.{AllFit}
 use Rattle.pack_codec.specs.declared.field.Field.TheVariants as field
 use Rattle.pack_codec.specs.Spelling.{int_of}
-use Rattle.stable_file.specs.Packs.{is_before, rise_after, rise}
+use Rattle.column_block.specs.Order.{is_before, rise_after, rise}
 use Rattle.stable_file.specs.Ranges.{handle_at}
 use Rattle.stable_file.specs.Building.{first_cuts}
 use Rattle.stable_file.proofs.CutsAgain.{both, rise_take, rise_drop}

@@ -15,7 +15,8 @@ use Rattle.column_block.specs.declared.cell.Cell.TheVariants as cell
 use Rattle.column_block.specs.declared.cell.Version.{Version}
 use Rattle.column_codec.specs.Numbers.{AllFit}
 use Rattle.pack_codec.specs.declared.field.Field.TheVariants as field
-use Rattle.pack_codec.specs.Spelling.{CellsFit, IsOfKind, ListFits, UintFits, cell_of, int_in, uint_in, int_of, uint_of, columns_of}
+use Rattle.pack_codec.specs.Spelling.{ListFits, UintFits, cell_of, int_in, uint_in, int_of, uint_of, columns_of}
+use Rattle.column_block.specs.Suiting.{CellsFit, IsOfKind}
 use Rattle.stable_file.specs.Footer.{range_at}
 use Rattle.stable_file.specs.Ranges.{widened, with_cell, range_with}
 use Rattle.stable_file.specs.Steps.{one_for_each}

@@ -7,7 +7,7 @@ use Rattle.column_block.specs.declared.cell.Version.{Version}
 use Rattle.column_block.specs.declared.column.MinMax.{MinMax}
 use Rattle.column_block.specs.declared.column.MinMax.TheVariants.{Empty}
 use Rattle.pack_codec.specs.Spelling.{cell_of}
-use Rattle.stable_file.specs.Packs.{is_before, rise_after, rise}
+use Rattle.column_block.specs.Order.{is_before, rise_after, rise}
 use Rattle.stable_file.specs.Ranges.{with_cell, range_with, same_range, are_ranges}
 
 some_is : (x y : Version) → Some x ≡ Some y → x ≡ y

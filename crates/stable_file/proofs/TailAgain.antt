@@ -9,7 +9,8 @@ use Rattle.column_block.specs.declared.column.Column.{Column}
 use Rattle.column_block.specs.declared.cell.Version.{Version}
 use Rattle.pack_codec.specs.declared.fault.FormError.TheVariants.{Damaged}
 use Rattle.pack_codec.specs.Reading.{ended}
-use Rattle.pack_codec.specs.Spelling.{pack, PackFits, Suits}
+use Rattle.pack_codec.specs.Spelling.{pack, PackFits}
+use Rattle.column_block.specs.Suiting.{Suits}
 use Rattle.pack_codec.proofs.FieldsAgain.{u32_again, u64_again}
 use Rattle.stable_file.specs.Footer.{end_magic, size_at, packs_at, pack_entry_at, behind, first, entries_at, footer_at, tail_at}
 use Rattle.stable_file.specs.Steps.{so_many}

@@ -13,7 +13,7 @@ use Rattle.column_block.specs.declared.column.MinMax.TheVariants.{Empty, Of}
 use Rattle.column_block.specs.declared.cell.Cell.{Cell}
 use Rattle.column_block.specs.declared.cell.Cell.TheVariants as cell
 use Rattle.column_block.specs.declared.cell.Version.{Version}
-use Rattle.pack_codec.specs.Spelling.{Suits, CellsFit}
+use Rattle.column_block.specs.Suiting.{Suits, CellsFit}
 use Rattle.stable_file.specs.Ranges.{with_cell, range_with, same_range, are_ranges, told_at, handle_at}
 use Rattle.stable_file.specs.Laws.{range_told, ranges_told, IsReadAgain, IsAsTold}
 

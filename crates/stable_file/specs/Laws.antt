@@ -1,5 +1,5 @@
 -- What is written is read again.
-use Rattle.std.specs.Prelude.{◌≡◌, ℕ, ◌+◌, ◌-◌, ◌<◌, ◌≤◌, ◌^◌, List, [], ◌∷◌, true, length, drop, Ok}
+use Rattle.std.specs.Prelude.{◌≡◌, ℕ, ◌+◌, ◌-◌, ◌<◌, ◌≤◌, ◌^◌, List, [], ◌∷◌, true, length, drop, Ok, Some, slice_get}
 use Rattle.std.specs.List.{AllByRecursion, flat_map}
 use Rattle.column_block.specs.declared.column.Column.{Column}
 use Rattle.column_block.specs.declared.column.Kind.{Kind}
@@ -7,12 +7,18 @@ use Rattle.column_block.specs.declared.column.Kind.TheVariants as kind
 use Rattle.column_block.specs.declared.column.MinMax.{MinMax}
 use Rattle.column_block.specs.declared.column.MinMax.TheVariants.{Empty}
 use Rattle.column_block.specs.declared.cell.Version.{Version}
-use Rattle.pack_codec.specs.Spelling.{pack, PackFits, Suits}
+use Rattle.pack_codec.specs.Spelling.{pack, PackFits}
+use Rattle.column_block.specs.Suiting.{Suits}
 use Rattle.stable_file.specs.declared.pack.Pack.{Pack}
-use Rattle.stable_file.specs.Packs.{rise, versions_in}
+use Rattle.stable_file.specs.Packs.{versions_in}
+use Rattle.column_block.specs.Order.{rise}
 use Rattle.stable_file.specs.Ranges.{range_with, handle_at, told_at, told_in}
 use Rattle.stable_file.specs.Building.{cuts, file, FileFits}
-use Rattle.stable_file.specs.Footer.{tail_at}
+use Rattle.column_codec.specs.Laws.{AreBytes}
+use Rattle.stable_file.specs.Footer.{footer_at, tail_at}
+use Rattle.stable_file.specs.Spelling.{footer_spelled}
+use Rattle.stable_file.specs.Opened.{HasEnd, IsTailOf}
+use Rattle.column_block.specs.Numbers.{is_within_range}
 
 -- The pack of some versions is read as these versions, wherever it stands.
 abbrev pub IsReadAgain : List Column → List Version → Type 0
@@ -84,3 +90,18 @@ pub record FooterTells (columns : List Column) (rows : ℕ) (versions : List Ver
 -- So it is where these versions and the file have no numbers that don't fit.
 abbrev pub BuiltFootersAreReadAgain : Type 0
 BuiltFootersAreReadAgain = (columns : List Column) (rows : ℕ) (versions : List Version) → 0 < rows → rows < 2 ^ 32 → rise versions ≡ true → AllByRecursion (Suits columns) versions → FileFits columns rows versions → FooterTells columns rows versions
+
+-- ---- any file
+
+-- The last bytes of a file tell the packs that the whole file tells, whatever the bytes are.
+abbrev pub TailsTellTheWhole : Type 0
+TailsTellTheWhole = (len : ℕ) (columns : List Column) (tail bytes : List ℕ) → IsTailOf len tail bytes → HasEnd len tail → tail_at len columns tail ≡ tail_at len columns bytes
+
+-- Of a pack that is as its footer tells, each version has in a column of numbers none, or one of the range that the footer tells.
+abbrev pub RangesTellOfRows : Type 0
+RangesTellOfRows = (columns : List Column) (pack : Pack) (end column : ℕ) (bytes : List ℕ) (range : MinMax) (versions : List Version) → told_at pack end columns bytes ≡ Ok versions → slice_get pack.ranges column ≡ Some range →
+    AllByRecursion (λ (v : Version). is_within_range column range v.cells ≡ true) versions
+
+-- Bytes that are read as a footer are the one spelling of the packs that it tells, so no other bytes are read as these packs.
+abbrev pub FootersHaveOneSpelling : Type 0
+FootersHaveOneSpelling = (columns : List Column) (end : ℕ) (footer : List ℕ) (packs : List Pack) → AreBytes footer → footer_at end columns footer ≡ Ok packs → footer ≡ footer_spelled columns packs

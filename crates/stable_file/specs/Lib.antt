@@ -6,3 +6,4 @@ pub mod Faults
 pub mod Opened
 pub mod Building
 pub mod Laws
+pub mod Spelling

@@ -1,15 +1,17 @@
 // Stable files that are open.
-ghost use Rattle.std.specs.Prelude.{◌≡◌, ◌<◌, ◌≤◌, ◌++◌, length, slice_get, slice_index_or, map, List, ℕ, IfOk, OnOk, Some};
+ghost use Rattle.std.specs.Prelude.{◌≡◌, ◌<◌, ◌≤◌, ◌+◌, ◌^◌, ◌++◌, length, slice_get, slice_index_or, map, List, ℕ, IfOk, OnOk, Some};
 ghost use Rattle.stable_file.specs.Faults.{Gives};
 ghost use Rattle.stable_file.specs.Footer.{tail_at};
-ghost use Rattle.stable_file.specs.Opened.{packs_of, schema_of, grip_of, IsTailOf, HasEnd};
+ghost use Rattle.stable_file.specs.Opened.{packs_of, schema_of, grip_of, HasEnd, ArePacks, count_in};
 
+use crate::counts::count_in;
 use crate::fault::ReadError;
 use crate::footer::tail_of;
 use crate::pack::Pack;
 use column_block::{Memory, MinMax, Schema};
 use flash_io::Gripped;
 use flash_list::Items;
+use flash_types::HandleRange;
 use std::alloc::{AllocError, Global};
 use std::marker::Model;
 use std::sync::Arc;
@@ -38,7 +40,11 @@ impl<G> Model for StableFile<G> {
 
     ghost Value = { Parts G };
 
+    ghost use Rattle.stable_file.specs.Opened.{ArePacks};
+
     ghost view = { λ file. arc_value file.shared };
+
+    ghost invariant = { λ file. ArePacks (arc_value file.shared).packs };
 }
 
 // The same schema once more.
@@ -59,6 +65,7 @@ pub fn made<G: Drop>(
     schema: &Schema,
     packs: Items<Pack>,
 ) -> Result<StableFile<G>, AllocError>
+    requires { ArePacks packs }
     ensures packs { IfOk result (λ file. packs_of file ≡ packs) }
     ensures schema { IfOk result (λ file. schema_of file ≡ schema.now) }
     ensures grip { IfOk result (λ file. grip_of file ≡ grip) }
@@ -101,7 +108,6 @@ pub fn attach<G: Gripped>(
 ) -> Result<StableFile<G>, ReadError>
     requires shorter { length tail.now ≤ len }
     requires footer { HasEnd len tail.now }
-    requires told { G.Gripped.tells → IsTailOf len tail.now (G.Gripped.bytes grip) }
     ensures exact { Gives packs_of result (tail_at len schema.now tail.now) }
     ensures schema { IfOk result (λ file. schema_of file ≡ schema.now) }
     ensures grip { IfOk result (λ file. grip_of file ≡ grip) }
@@ -133,18 +139,39 @@ impl<G> StableFile<G> {
 
     /// The number of packs, at least one.
     pub fn packs(&self) -> u64
-        ensures { result ≡ length (packs_of self.now) }
+        ensures number { result ≡ length (packs_of self.now) }
+        ensures some { 0 < result }
+        ensures lawful { ArePacks (packs_of self.now) }
     {
         self.shared.packs.len() as u64
     }
 
-    /// The place of a pack in the file, and the number of its bytes. Packs are counted from 0.
+    /// The place of a pack in the file, and the number of its bytes: so many from there on are what
+    /// `pack_of` takes. Packs are counted from 0.
     pub fn place(&self, k: u64) -> (u64, u64)
         requires { k < length (packs_of self.now) }
-        ensures { slice_get (map (λ (pack : Pack). (pack.place, pack.len)) (packs_of self.now)) k ≡ Some result }
+        ensures exact { slice_get (map (λ (pack : Pack). (pack.place, pack.len)) (packs_of self.now)) k ≡ Some result }
+        ensures reach { result.0 + result.1 < 2 ^ 64 }
     {
         let pack = self.shared.packs.at(k as usize);
         (pack.place, pack.len)
+    }
+
+    /// The number of versions in a pack, at least one.
+    pub fn count(&self, k: u64) -> u32
+        requires { k < length (packs_of self.now) }
+        ensures { slice_get (map (λ (pack : Pack). pack.count) (packs_of self.now)) k ≡ Some result }
+    {
+        self.shared.packs.at(k as usize).count
+    }
+
+    /// The number of versions in the packs whose least handle is below the range's end and whose
+    /// greatest isn't below its low: of the packs that may have a version in the range, at most 2^64
+    /// less one. It reads no device.
+    pub fn versions_in(&self, range: HandleRange) -> u64
+        ensures { result ≡ count_in range (packs_of self.now) }
+    {
+        count_in(range, self.shared.packs.as_slice())
     }
 
     /// The least handle of a pack.

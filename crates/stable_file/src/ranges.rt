@@ -2,7 +2,7 @@
 ghost use Rattle.std.specs.Prelude.{◌≡◌, ◌<◌, ◌≤◌, length, slice_range, IfOk, IsTrue};
 ghost use Rattle.pack_codec.specs.Faults.{Gives};
 ghost use Rattle.pack_codec.specs.Spelling.{cell_of};
-ghost use Rattle.stable_file.specs.Packs.{rise};
+ghost use Rattle.column_block.specs.Order.{rise};
 ghost use Rattle.stable_file.specs.Ranges as ranges;
 
 use crate::pack::Pack;

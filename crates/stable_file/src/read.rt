@@ -1,10 +1,10 @@
 // Stable files that are read through a reader.
 ghost use Rattle.std.specs.Prelude.{◌≡◌, ◌<◌, ◌≤◌, ◌-◌, length, take, drop, slice_get, IfOk, IfErr, IsTrue, Some};
 ghost use Rattle.stable_file.specs.declared.pack.Pack.{Pack};
-ghost use Rattle.stable_file.specs.Opened.{packs_of, schema_of, grip_of};
+ghost use Rattle.stable_file.specs.Opened.{packs_of, schema_of, grip_of, ArePacks};
 ghost use Rattle.stable_file.specs.Faults.{GivesOrDevice, HasReadCause, IsOutside};
 ghost use Rattle.stable_file.specs.Footer.{size_at, tail_at};
-ghost use Rattle.stable_file.specs.Packs.{rise};
+ghost use Rattle.column_block.specs.Order.{rise};
 ghost use Rattle.stable_file.specs.Ranges.{told_in};
 
 use crate::fault::ReadError;
@@ -87,6 +87,7 @@ fn packs_in<R: Reader>(
 ) -> Result<Items<Pack>, ReadError>
     requires { R.Grip.tells → length (R.Grip.bytes grip.now) ≡ len }
     ensures exact { R.Grip.tells → GivesOrDevice (λ packs. packs) result (tail_at len columns.now (R.Grip.bytes grip.now)) }
+    ensures lawful { IfOk result ArePacks }
     ensures cause { HasReadCause (R.fault_count reader.old) (R.fault_count reader.new) result }
 {
     if len < 12 {

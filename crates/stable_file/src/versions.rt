@@ -2,22 +2,13 @@
 ghost use Rattle.std.specs.Prelude.{◌≡◌, ◌+◌, ◌<◌, ◌^◌, length, slice_get, IfOk, IsTrue, Some};
 ghost use Rattle.pack_codec.specs.Faults as form;
 ghost use Rattle.stable_file.specs.Faults.{Gives};
-ghost use Rattle.stable_file.specs.Packs.{is_before, rise, versions_in, versions_at};
+ghost use Rattle.stable_file.specs.Packs.{versions_in, versions_at};
+ghost use Rattle.column_block.specs.Order.{rise};
 
 use crate::fault::ReadError;
-use column_block::{Block, Schema, Version};
+use column_block::{Block, Schema, is_before};
 use pack_codec::{FormError, read_pack};
 use std::alloc::Global;
-
-/// Whether a version stands before another: by handle, and by timestamp where the handle is the same.
-pub fn is_before(v: &Version, w: &Version) -> bool
-    ensures { result ≡ is_before v.now w.now }
-{
-    if v.handle < w.handle {
-        return true;
-    }
-    v.handle == w.handle && v.ts < w.ts
-}
 
 /// Whether there is a version, and each stands before the next.
 pub fn rise(block: &Block) -> bool

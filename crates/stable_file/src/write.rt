@@ -3,7 +3,7 @@ ghost use Rattle.std.specs.Prelude.{◌≡◌, ◌+◌, ◌-◌, ◌*◌, ◌++�
 ghost use Rattle.std.specs.List.{flat_map, AllByRecursion};
 ghost use Rattle.flash_put.specs.Appending.{Appends};
 ghost use Rattle.pack_codec.specs.Spelling.{pack, PackFits};
-ghost use Rattle.stable_file.specs.Packs.{rise};
+ghost use Rattle.column_block.specs.Order.{rise};
 ghost use Rattle.stable_file.specs.Building as building;
 ghost use Rattle.stable_file.specs.Building.{FileFits};
 

@@ -1,5 +1,5 @@
 use Rattle.std.proofs.Common.{◌≡◌, length, sym, ◌∙◌, arith}
-use Rattle.stable_file.specs.Packs.{rise}
+use Rattle.column_block.specs.Order.{rise}
 use Rattle.stable_file.proofs.Rising.{rises_on, falls, all_rose}
 use Rattle.stable_file.proofs.versions.rise.Goals as goal
 

@@ -1,5 +1,5 @@
 use Rattle.std.proofs.Common.{◌≡◌, ◌-◌, drop}
-use Rattle.stable_file.specs.Packs.{rise}
+use Rattle.column_block.specs.Order.{rise}
 use Rattle.stable_file.proofs.versions.rise.Given as goal
 
 abbrev pub invariant-loop-i : goal.invariant-loop-i
