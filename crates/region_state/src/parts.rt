@@ -3,7 +3,7 @@ ghost use Rattle.std.specs.Prelude.{◌≡◌, IfOk, OnOk, OnErr, int_lt, int_le
 ghost use Rattle.std.specs.List.Sorted.{IsStrictlySortedBy};
 ghost use Rattle.std.specs.Map.{keys_of};
 ghost use Rattle.std.specs.Ordering.{int_cmp};
-ghost use Rattle.committed_log.specs.Regions.{lower_part, upper_part, merged, joined, ends_at};
+ghost use Rattle.committed_log.specs.Regions.{lower_part, upper_part, merged};
 ghost use Rattle.region_state.specs.Parting.{IsSideOf};
 
 use crate::region::{Locks, Values};
@@ -150,31 +150,6 @@ pub fn upper_part(there: Descriptor, at: Handle) -> Descriptor
     }
 }
 
-fn ends_at(range: HandleRange, handle: Handle) -> bool
-    ensures { result ≡ ends_at range handle }
-{
-    match range.high {
-        None => false,
-        Some(high) => high == handle,
-    }
-}
-
-fn joined(a: HandleRange, b: HandleRange) -> HandleRange
-    ensures { result ≡ joined a b }
-{
-    if ends_at(a, b.low) {
-        HandleRange {
-            low: a.low,
-            high: b.high,
-        }
-    } else {
-        HandleRange {
-            low: b.low,
-            high: a.high,
-        }
-    }
-}
-
 /// What a region is after another was merged into it.
 pub fn merged(there: Descriptor, source: Descriptor, index: u64) -> Descriptor
     requires there { there.epoch.version < 18446744073709551615 }
@@ -182,7 +157,7 @@ pub fn merged(there: Descriptor, source: Descriptor, index: u64) -> Descriptor
     ensures { result ≡ merged there source index }
 {
     Descriptor {
-        range: joined(there.range, source.range),
+        range: there.range.joined(&source.range),
         epoch: Epoch {
             conf_ver: there.epoch.conf_ver,
             version: there.epoch.version.max(source.epoch.version) + 1,
