@@ -8,7 +8,8 @@ use Rattle.std.specs.Cmp.{int_ranks}
 use Rattle.std.specs.List.{AllByRecursion}
 use Rattle.std.specs.List.Sorted.{IsStrictlySortedBy}
 use Rattle.std.specs.Map.{keys_of}
-use Rattle.delta_index.specs.Indexes.{Entry, key_cmp, AreRising}
+use Rattle.delta_index.specs.Indexes.{Entry, AreRising}
+use Rattle.column_block.specs.Order.{key_cmp}
 
 by_ranks : (x y : ℤ) (r s : Ordering) → MatchOrdering r (x <ℤ y) (x ≡ y) (y <ℤ x) → ordering_then r s ≡ Less → x ≤ℤ y
 by_ranks x y Less s h less = omega (arith, ints)

@@ -1,7 +1,8 @@
 -- One step of merging two lists.
 use Rattle.std.proofs.Common.{◌≡◌, length, arith, ◌∙◌, refl, sym, ap, ap₂, subst, List, [], ◌∷◌, ◌++◌, append_assoc, fold}
 use Rattle.std.specs.declared.cmp.Ordering.TheVariants.{Less, Equal, Greater}
-use Rattle.delta_index.specs.Indexes.{Entry, key_cmp, put, AreRising}
+use Rattle.delta_index.specs.Indexes.{Entry, put, AreRising}
+use Rattle.column_block.specs.Order.{key_cmp}
 use Rattle.delta_index.proofs.Puts.{merge_keeps, merge_adds, merge_replaces, rising_stays, rising_tail}
 
 carried : (made made' rest whole total : List Entry) (e : Entry) → made ++ whole ≡ total → whole ≡ e ∷ rest → made' ≡ made ++ e ∷ [] → made' ++ rest ≡ total

@@ -13,10 +13,12 @@ use Rattle.std.specs.List.Sorted.{IsStrictlySortedBy}
 use Rattle.flash_types.specs.Ranges.{holds, is_below}
 use Rattle.flash_types.specs.declared.range.HandleRange.{HandleRange}
 use Rattle.delta_index.specs.Chunks.{flat, AreAbove, AreBelow, IsCut, IsPart}
-use Rattle.delta_index.specs.Indexes.{Entry, key_cmp, put, cleared, AreRising}
+use Rattle.delta_index.specs.Indexes.{Entry, put, cleared, AreRising}
+use Rattle.column_block.specs.Order.{key_cmp}
 use Rattle.delta_index.proofs.Handles.{handles_rise}
 use Rattle.delta_index.proofs.Pieces.{drop_chunk}
-use Rattle.delta_index.proofs.Puts.{key_cmp_total, turned, above_more, rising_none, rising_stays}
+use Rattle.delta_index.proofs.Puts.{turned, above_more, rising_none, rising_stays}
+use Rattle.column_block.proofs.Ordered.{key_cmp_total}
 use Rattle.delta_index.proofs.Splits.{in_parts}
 
 -- ---- parts of what rises

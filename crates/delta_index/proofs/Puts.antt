@@ -1,16 +1,13 @@
 -- Entries that are put into a list in the order of their keys.
 use Rattle.std.proofs.Common.{◌≡◌, ◌∙◌, refl, sym, ap, ℕ, ℤ, List, [], ◌∷◌, fold}
-use Rattle.std.proofs.lemmas.Cmp.{then_total, on_total}
 use Rattle.std.specs.declared.cmp.Ordering.{Ordering}
 use Rattle.std.specs.declared.cmp.Ordering.TheVariants.{Less, Equal, Greater}
-use Rattle.std.specs.Ordering.{match_ordering, ordering_reverse, nat_cmp, int_cmp}
-use Rattle.std.specs.Cmp.{IsTotalOrder, nat_cmp_total, int_cmp_total}
+use Rattle.std.specs.Ordering.{match_ordering, ordering_reverse}
 use Rattle.std.specs.List.Sorted.{IsStrictlySortedBy}
 use Rattle.delta_index.specs.Chunks.{AreAbove}
-use Rattle.delta_index.specs.Indexes.{Entry, key_cmp, put, AreRising}
-
-pub key_cmp_total : IsTotalOrder key_cmp
-key_cmp_total = then_total {R = λ a b. int_cmp a.0 b.0} {S = λ a b. nat_cmp a.1 b.1} (on_total (λ a. a.0) int_cmp_total) (on_total (λ a. a.1) nat_cmp_total)
+use Rattle.delta_index.specs.Indexes.{Entry, put, AreRising}
+use Rattle.column_block.specs.Order.{key_cmp}
+pub use Rattle.column_block.proofs.Ordered.{key_cmp_total}
 
 abbrev pub put_all : List Entry → List Entry → List Entry
 put_all es fs = fold put es fs

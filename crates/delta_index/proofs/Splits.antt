@@ -3,7 +3,8 @@ use Rattle.std.proofs.Common.{◌≡◌, ◌∙◌, refl, ap, ℕ, ℤ, List, []
 use Rattle.std.proofs.lemmas.List.Sums.{fold-append}
 use Rattle.std.specs.declared.cmp.Ordering.TheVariants.{Less, Equal, Greater}
 use Rattle.std.specs.Ordering.{match_ordering}
-use Rattle.delta_index.specs.Indexes.{Entry, key_cmp, put}
+use Rattle.delta_index.specs.Indexes.{Entry, put}
+use Rattle.column_block.specs.Order.{key_cmp}
 use Rattle.delta_index.specs.Chunks.{AreAbove, AreBelow}
 use Rattle.delta_index.proofs.Puts.{put_all, put_by, head_stays}
 

@@ -3,7 +3,8 @@ use Rattle.std.specs.Prelude.{◌≡◌, ℕ, ℤ, ◌+◌, ◌<◌, ◌≤◌, 
 use Rattle.std.specs.declared.cmp.Ordering.TheVariants.{Less}
 use Rattle.std.specs.List.{flat_map, AllByRecursion}
 use Rattle.std.specs.Map.{keys_of}
-use Rattle.delta_index.specs.Indexes.{Entry, key_cmp, put, AreRising}
+use Rattle.delta_index.specs.Indexes.{Entry, put, AreRising}
+use Rattle.column_block.specs.Order.{key_cmp}
 
 -- the entries of all chunks, in order
 abbrev pub flat : List (List Entry) → List Entry

@@ -4,19 +4,14 @@ use Rattle.std.specs.BTreeMap.{insert_entry}
 use Rattle.std.specs.List.{enumerate_from}
 use Rattle.std.specs.List.Sorted.{IsStrictlySortedBy}
 use Rattle.std.specs.Map.{keys_of}
-use Rattle.std.specs.declared.cmp.Ordering.{Ordering}
-use Rattle.std.specs.Ordering.{nat_cmp, int_cmp, ordering_then}
 use Rattle.column_block.specs.declared.cell.Version.{Version}
+pub use Rattle.column_block.specs.Order.{key_cmp}
 use Rattle.flash_types.specs.Ranges.{holds}
 use Rattle.flash_types.specs.declared.range.HandleRange.{HandleRange}
 
 -- a version's handle and timestamp, beside the number of its file and its row there
 abbrev pub Entry : Type 0
 Entry = (ℤ × ℕ) × (ℕ × ℕ)
-
--- by handle, and by timestamp where the handles are equal
-abbrev pub key_cmp : ℤ × ℕ → ℤ × ℕ → Ordering
-key_cmp a b = ordering_then (int_cmp a.0 b.0) (nat_cmp a.1 b.1)
 
 abbrev pub entry_of : ℕ → ℕ × Version → Entry
 entry_of number placed = ((placed.1.handle, placed.1.ts), (number, placed.0))

@@ -1,7 +1,8 @@
 // The versions of one file in the index's order.
 ghost use Rattle.std.specs.Prelude.{◌≡◌, [], IfOk, OnOk};
 ghost use Rattle.std.specs.BTreeMap.{insert_entry};
-ghost use Rattle.delta_index.specs.Indexes.{extended, key_cmp, AreRising};
+ghost use Rattle.delta_index.specs.Indexes.{extended, AreRising};
+ghost use Rattle.column_block.specs.Order.{key_cmp};
 
 use crate::Memory;
 use column_block::{Block, Version};

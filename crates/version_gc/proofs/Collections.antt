@@ -12,7 +12,8 @@ use Rattle.std.proofs.lemmas.List.{map-append}
 use Rattle.std.proofs.Common.{append_assoc}
 use Rattle.std.proofs.lemmas.Option.{get_or_from_slice_get, slice_get_within}
 use Rattle.column_block.specs.declared.cell.Version.{Version}
-use Rattle.version_gc.specs.Keep.{is_kept, keep, version_cmp, Rise}
+use Rattle.version_gc.specs.Keep.{is_kept, keep}
+use Rattle.column_block.specs.Order.{version_cmp, Rise}
 use Rattle.version_gc.specs.Shown.{newest, cells_of, shown}
 
 -- ---- place by place

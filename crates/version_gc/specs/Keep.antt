@@ -1,10 +1,8 @@
 -- Which versions of a block a collection keeps.
-use Rattle.std.specs.Prelude.{◌≡◌, ℕ, Bool, not, ◌||◌, List, [], ◌∷◌, nat_lt, if◌then◌else◌}
-use Rattle.std.specs.List.{AllPairs}
-use Rattle.std.specs.Ordering.{int_eq, int_cmp, nat_cmp, ordering_then}
-use Rattle.std.specs.declared.cmp.Ordering.{Ordering}
-use Rattle.std.specs.declared.cmp.Ordering.TheVariants.{Less}
+use Rattle.std.specs.Prelude.{ℕ, Bool, not, ◌||◌, List, [], ◌∷◌, nat_lt, if◌then◌else◌}
+use Rattle.std.specs.Ordering.{int_eq}
 use Rattle.column_block.specs.declared.cell.Version.{Version}
+pub use Rattle.column_block.specs.Order.{version_cmp, Rise}
 
 -- Whether a version is kept, where these come after it in the order of handle and timestamp: above the safe point each is; at or below it the row's newest is, if it is a put or newer ones are kept beside it.
 abbrev pub is_kept : ℕ → Version → List Version → Bool
@@ -14,10 +12,3 @@ is_kept safe v (w ∷ ws) = nat_lt safe v.ts || (if int_eq w.handle v.handle the
 abbrev pub keep : ℕ → List Version → List Version
 keep safe [] = []
 keep safe (v ∷ vs) = if is_kept safe v vs then v ∷ keep safe vs else keep safe vs
-
-abbrev pub version_cmp : Version → Version → Ordering
-version_cmp v w = ordering_then (int_cmp v.handle w.handle) (nat_cmp v.ts w.ts)
-
--- the versions rise by handle and timestamp, each pair of these once
-abbrev pub Rise : List Version → Type 0
-Rise versions = AllPairs (λ (v w : Version). version_cmp v w ≡ Less) versions

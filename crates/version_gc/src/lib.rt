@@ -6,7 +6,8 @@
 ghost use Rattle.std.specs.Prelude.{◌≡◌, ◌<◌, ◌≤◌, ◌+◌, ◌++◌, ◌∷◌, [], ℕ, ℤ, List, Some, IfOk, OnOk, length, map, drop, slice_get, if◌then◌else◌};
 ghost use Rattle.std.specs.Ordering.{int_eq};
 ghost use Rattle.column_block.specs.declared.cell.Version.{Version};
-ghost use Rattle.version_gc.specs.Keep.{keep, Rise};
+ghost use Rattle.version_gc.specs.Keep.{keep};
+ghost use Rattle.column_block.specs.Order.{Rise};
 ghost use Rattle.version_gc.specs.Rows.{OneRowIsCollected};
 ghost use Rattle.version_gc.specs.Shown.{shown};
 

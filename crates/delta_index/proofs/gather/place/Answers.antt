@@ -1,7 +1,7 @@
 use Rattle.std.proofs.Common.{rules, ◌≡◌, ℤ, SFits, w64, subst}
 use Rattle.std.proofs.lemmas.Int.{to_z-of_z}
 use Rattle.std.specs.BTreeMap.{insert_entry}
-use Rattle.delta_index.specs.Indexes.{key_cmp}
+use Rattle.column_block.specs.Order.{key_cmp}
 use Rattle.delta_index.proofs.gather.place.Goals as goal
 
 pub returns-in-Ok : goal.returns-in-Ok

@@ -1,6 +1,7 @@
 use Rattle.std.proofs.Common.{◌≡◌, ◌∷◌, [], sym, ◌∙◌, fold}
 use Rattle.std.specs.declared.cmp.Ordering.TheVariants.{Less, Equal, Greater}
-use Rattle.delta_index.specs.Indexes.{key_cmp, put}
+use Rattle.delta_index.specs.Indexes.{put}
+use Rattle.column_block.specs.Order.{key_cmp}
 use Rattle.delta_index.proofs.Merges.{keeps, replaces, adds, adds_rest, rising_rest, no_items}
 use Rattle.delta_index.proofs.merge.merged.Goals as goal
 
