@@ -21,8 +21,10 @@ use Rattle.column_file.specs.declared.file.ColumnFile.{ColumnFile}
 use Rattle.column_file.specs.declared.file.ColumnFile.TheVariants.{Mem, Tiny, DeleteRange}
 use Rattle.flash_types.specs.Ranges.{holds}
 use Rattle.flash_types.specs.declared.range.HandleRange.{HandleRange}
-use Rattle.delta_index.specs.Indexes.{Entry, key_cmp, put, entry_of, entries_of, extended, cleared, AreRising}
-use Rattle.delta_index.proofs.Puts.{key_cmp_total, rising_put, rising_none}
+use Rattle.delta_index.specs.Indexes.{Entry, put, entry_of, entries_of, extended, cleared, AreRising}
+use Rattle.column_block.specs.Order.{key_cmp}
+use Rattle.delta_index.proofs.Puts.{rising_put, rising_none}
+use Rattle.column_block.proofs.Ordered.{key_cmp_total, key}
 use Rattle.delta_index.proofs.Files.{rising_left, rising_by}
 use Rattle.good_replica.specs.Changed.{had}
 use Rattle.good_replica.specs.Trail.{DeltaFile, Step, Cleared, Wrote, Puts, Clears, steps_on, step_on, wrote_unless_empty, versions_on, after_version, after_versions, after_step, after_steps}
@@ -31,7 +33,7 @@ use Rattle.good_replica.proofs.Steps.{versions_over}
 use Rattle.delta_layer.specs.Files.{file_of, files_of, indexed, with_file, index_of}
 use Rattle.delta_layer.specs.Overlay.{block_in, at_place, clear_in, clears_in, any_holds}
 use Rattle.delta_layer.proofs.Indexes.{get_left, get_last, enumerate_more}
-use Rattle.delta_layer.proofs.Order.{key, key_is, is_at_key, here, here_is, had_cons}
+use Rattle.delta_layer.proofs.Order.{key_is, is_at_key, here, here_is, had_cons}
 
 -- ---- places
 

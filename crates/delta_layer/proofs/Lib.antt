@@ -1,3 +1,5 @@
+pub mod Attached
+pub mod Blocks
 pub mod Deltas
 pub mod Indexes
 pub mod Layers
@@ -7,5 +9,6 @@ pub mod Overlaid
 pub mod Packing
 pub mod Pairs
 pub mod Places
+pub mod Presents
 pub mod Repacking
 pub mod Sweeping

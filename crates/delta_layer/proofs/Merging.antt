@@ -6,13 +6,11 @@ use Rattle.std.specs.Ordering.{is_eq}
 use Rattle.std.specs.declared.cmp.Ordering.TheVariants.{Less, Equal}
 use Rattle.std.proofs.lemmas.List.{take-append-drop}
 use Rattle.column_block.specs.declared.cell.Version.{Version}
-use Rattle.delta_index.specs.Indexes.{key_cmp}
-use Rattle.delta_index.proofs.Puts.{key_cmp_total}
+use Rattle.column_block.specs.Order.{key_cmp, is_before, version_cmp}
+use Rattle.column_block.proofs.Ordered.{key_cmp_total, key, before_less, neither, Above, Up, above_more, each_both, each_left, each_right, each_weaker, up_left, up_right, up_cross, up_both}
 use Rattle.good_replica.proofs.Facts.{or_none_right}
-use Rattle.stable_file.specs.Packs.{is_before}
-use Rattle.version_gc.specs.Keep.{version_cmp}
 use Rattle.delta_layer.specs.Overlay.{count_before, own, merged}
-use Rattle.delta_layer.proofs.Order.{key, before_less, neither, Above, Up, above_more, each_both, each_left, each_right, each_weaker, up_left, up_right, up_cross, up_both, is_at_key, at, at_both, key_is, none_above}
+use Rattle.delta_layer.proofs.Order.{is_at_key, at, at_both, key_is, none_above}
 
 abbrev front : Version → List Version → List Version
 front v news = take (count_before v news) news

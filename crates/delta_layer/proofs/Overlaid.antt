@@ -16,16 +16,16 @@ use Rattle.column_block.specs.declared.cell.Version.{Version}
 use Rattle.column_file.specs.declared.file.ColumnFile.{ColumnFile}
 use Rattle.flash_types.specs.Ranges.{holds}
 use Rattle.flash_types.specs.declared.range.HandleRange.{HandleRange}
-use Rattle.delta_index.specs.Indexes.{Entry, key_cmp, AreRising}
-use Rattle.delta_index.proofs.Puts.{key_cmp_total}
+use Rattle.delta_index.specs.Indexes.{Entry, AreRising}
+use Rattle.column_block.specs.Order.{key_cmp, version_cmp, Rise}
+use Rattle.column_block.proofs.Ordered.{key_cmp_total, key, Above, Up, above_more, each_filter, up_filter, rise_from_up, up_from_rise}
 use Rattle.delta_index.proofs.Files.{rising_by}
 use Rattle.good_replica.specs.Changed.{had, view}
 use Rattle.good_replica.specs.Trail.{DeltaFile, steps_on, after_steps}
-use Rattle.version_gc.specs.Keep.{version_cmp, Rise}
 use Rattle.delta_layer.specs.Files.{files_of, index_of}
 use Rattle.delta_layer.specs.Overlay.{at_place, placed, in_range, clears_in, any_holds, picked, stays, merged}
 use Rattle.delta_layer.specs.Present.{ArePresent, AreWithin}
-use Rattle.delta_layer.proofs.Order.{key, key_is, is_at_key, at, had_is, none_above, Above, Up, above_more, each_filter, up_filter, rise_from_up, up_from_rise}
+use Rattle.delta_layer.proofs.Order.{key_is, is_at_key, at, had_is, none_above}
 use Rattle.delta_layer.proofs.Merging.{each_merged, up_merged, at_merged}
 use Rattle.delta_layer.proofs.Places.{take_more}
 use Rattle.delta_layer.proofs.Deltas.{IsPlaced, ArePlaced, found, place_of, exact, placed_filter, Knows, knows}

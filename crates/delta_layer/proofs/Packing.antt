@@ -10,8 +10,7 @@ use Rattle.stable_file.specs.Faults.{FailsOrDevice}
 use Rattle.stable_file.specs.declared.fault.ReadError.{ReadError}
 use Rattle.stable_file.specs.declared.fault.ReadError.TheVariants as read
 use Rattle.stable_file.specs.declared.pack.Pack.{Pack}
-use Rattle.stable_file.specs.Packs.{is_before, rise_after, rise}
-use Rattle.delta_layer.specs.Overlay.{rises}
+use Rattle.column_block.specs.Order.{is_before, rise_after, rise, rises}
 use Rattle.delta_layer.specs.Stable.{with_pack, packs_in}
 use Rattle.delta_layer.proofs.Places.{take_more}
 

@@ -6,7 +6,7 @@ use Rattle.std.specs.List.{All, AllByRecursion, filter_map, cons_option, prefix_
 use Rattle.std.proofs.lemmas.Option.{slice_get_within, slice_get-get_or}
 use Rattle.column_block.specs.declared.cell.Version.{Version}
 use Rattle.flash_types.specs.declared.range.HandleRange.{HandleRange}
-use Rattle.stable_file.specs.Packs.{is_before}
+use Rattle.column_block.specs.Order.{is_before}
 use Rattle.delta_layer.specs.Overlay.{picked, ArePlaces, count_before, own, merged}
 
 pub drop_here : {X : Type 0} (xs : List X) (i : ℕ) (x : X) → slice_get xs i ≡ Some x → drop i xs ≡ x ∷ drop (i + 1) xs

@@ -15,7 +15,7 @@ use Rattle.good_replica.proofs.Steps.{clear, steps_over}
 use Rattle.delta_layer.specs.Files.{file_of, files_of, is_mem, is_tiny}
 use Rattle.delta_layer.specs.Repacked.{replaced, first_mem, flushed, compacted, CanFlush, CanCompact, ShowSame, Repacked, Flushed, Compacted, Then}
 use Rattle.delta_layer.proofs.Layers.{parted}
-use Rattle.delta_layer.proofs.Order.{each_weaker}
+use Rattle.column_block.proofs.Ordered.{each_weaker}
 
 steps_both : (h : ℤ) (files others : List ColumnFile) → steps_on h (files_of (files ++ others)) ≡ steps_on h (files_of files) ++ steps_on h (files_of others)
 steps_both h files others = ap (steps_on h) (map-append file_of files others) ∙ filter_map-append (step_on h) (files_of files) (files_of others)

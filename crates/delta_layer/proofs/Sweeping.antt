@@ -11,7 +11,7 @@ use Rattle.column_block.specs.declared.cell.Version.{Version}
 use Rattle.flash_types.specs.Ranges.{holds, is_below}
 use Rattle.flash_types.specs.declared.range.HandleRange.{HandleRange}
 use Rattle.delta_layer.specs.Overlay.{any_holds, reached, later_end, further, stays, AreByLow}
-use Rattle.delta_layer.proofs.Order.{Up, Above, handle_le, each_left, each_right, up_left, up_cross}
+use Rattle.column_block.proofs.Ordered.{Up, Above, handle_le, each_left, each_right, up_left, up_cross}
 use Rattle.delta_layer.proofs.Places.{take_more, take_split}
 
 pub by_low_rest : (range : HandleRange) (others : List HandleRange) → AreByLow (range ∷ others) → AreByLow others

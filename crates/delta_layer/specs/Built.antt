@@ -8,7 +8,7 @@ use Rattle.flash_types.specs.declared.range.HandleRange.{HandleRange}
 use Rattle.pack_codec.specs.declared.fault.FormError.{FormError}
 use Rattle.pack_codec.specs.declared.fault.FormError.TheVariants as form
 use Rattle.stable_file.specs.declared.file.StableFile.{StableFile}
-use Rattle.version_gc.specs.Keep.{Rise}
+use Rattle.column_block.specs.Order.{Rise}
 use Rattle.delta_layer.specs.Pieces.{IsStablePiece}
 use Rattle.delta_layer.specs.Present.{AreWithin, IsPresent}
 use Rattle.delta_layer.specs.Stable.{stable_in}

@@ -44,3 +44,11 @@ with_file index placed = indexed placed.0 index placed.1
 -- The index over files, each numbered by its place.
 abbrev pub index_of : List ColumnFile → List Entry
 index_of files = fold with_file [] (enumerate_from 0 files)
+
+-- each version that the file has is such
+abbrev pub FileHas : (Version → Type 0) → DeltaFile → Type 0
+FileHas P (Puts versions) = AllByRecursion P versions
+FileHas P (Clears range) = Unit {0}
+
+abbrev pub FilesHave : (Version → Type 0) → List DeltaFile → Type 0
+FilesHave P files = AllByRecursion (FileHas P) files

@@ -1,6 +1,7 @@
 pub mod Built
 pub mod Faults
 pub mod Files
+pub mod Laws
 pub mod Overlay
 pub mod Pieces
 pub mod Present

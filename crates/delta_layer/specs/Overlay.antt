@@ -8,7 +8,7 @@ use Rattle.column_file.specs.declared.file.ColumnFile.TheVariants.{Mem, Tiny, De
 use Rattle.delta_index.specs.Indexes.{Entry}
 use Rattle.flash_types.specs.Ranges.{holds, is_below}
 use Rattle.flash_types.specs.declared.range.HandleRange.{HandleRange}
-use Rattle.stable_file.specs.Packs.{is_before, rise}
+use Rattle.column_block.specs.Order.{is_before, rise}
 
 -- ---- versions by their places
 
@@ -18,11 +18,6 @@ picked all places = filter_map (slice_get all) places
 
 abbrev pub ArePlaces : List Version → List ℕ → Type 0
 ArePlaces all places = All (λ (place : ℕ). place < length all) places
-
--- there is none, or each stands before the next
-abbrev pub rises : List Version → Bool
-rises [] = true
-rises (v ∷ vs) = rise (v ∷ vs)
 
 -- ---- the newest versions of a delta
 

@@ -11,7 +11,7 @@ use Rattle.stable_file.specs.declared.file.StableFile.{StableFile}
 use Rattle.stable_file.specs.Faults.{FailsOrDevice}
 use Rattle.good_replica.specs.Changed.{view, had}
 use Rattle.good_replica.specs.Trail.{DeltaFile}
-use Rattle.version_gc.specs.Keep.{Rise}
+use Rattle.column_block.specs.Order.{Rise}
 use Rattle.delta_layer.specs.Files.{files_of}
 use Rattle.delta_layer.specs.Stable.{stable_in}
 

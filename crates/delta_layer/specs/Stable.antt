@@ -8,7 +8,7 @@ use Rattle.pack_codec.specs.declared.fault.FormError.TheVariants.{Damaged}
 use Rattle.stable_file.specs.declared.file.StableFile.{StableFile}
 use Rattle.stable_file.specs.declared.pack.Pack.{Pack}
 use Rattle.stable_file.specs.Opened.{packs_of, schema_of, grip_of}
-use Rattle.stable_file.specs.Packs.{rise}
+use Rattle.column_block.specs.Order.{rise}
 use Rattle.stable_file.specs.Ranges.{told_in}
 
 -- The versions so far with those of one more pack, or the pack's place where they don't rise together.

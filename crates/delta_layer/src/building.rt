@@ -1,6 +1,6 @@
 // The versions that are present in a segment, for those who build of it.
 ghost use Rattle.std.specs.Prelude.{◌≡◌, IfOk};
-ghost use Rattle.version_gc.specs.Keep.{Rise};
+ghost use Rattle.column_block.specs.Order.{Rise};
 ghost use Rattle.delta_layer.specs.Built.{GivesForBuild, HasBuildCause, NeverOneHandle};
 ghost use Rattle.delta_layer.specs.Present.{AreWithin};
 

@@ -1,6 +1,6 @@
 // What is built of segments outside of their turn, and put in their place afterwards.
 ghost use Rattle.std.specs.Prelude.{◌≡◌, ◌<◌, IfOk};
-ghost use Rattle.version_gc.specs.Keep.{Rise};
+ghost use Rattle.column_block.specs.Order.{Rise};
 ghost use Rattle.delta_layer.specs.Faults.{build_error};
 ghost use Rattle.delta_layer.specs.Pieces.{IsStablePiece};
 

@@ -16,7 +16,11 @@ mod view;
 
 pub use building::present_for_build;
 pub use built::{BuildError, Built, Job, Piece, stable_piece};
-pub use laws::{present_versions_are_unique, repacked_layers_show_the_same};
+pub use laws::{
+    attached_pieces_are_read, blocks_become_one, pieces_are_read_again,
+    present_versions_are_unique, present_versions_suit, repacked_layers_show_the_same,
+    stable_files_suit,
+};
 pub use layer::DeltaLayer;
 pub use presence::present;
 pub use view::{DeltaView, SegmentView};

@@ -4,13 +4,13 @@ ghost use Rattle.std.specs.Prelude.{◌≡◌, ◌<◌, ◌≤◌, ◌+◌, ◌�
 ghost use Rattle.column_block.specs.declared.cell.Version.{Version};
 ghost use Rattle.delta_layer.specs.Overlay as overlay;
 ghost use Rattle.flash_types.specs.Ranges.{holds};
-ghost use Rattle.delta_layer.specs.Overlay.{count_before, own, picked, reached, rises, stays, AreByLow, ArePlaces};
+ghost use Rattle.delta_layer.specs.Overlay.{count_before, own, picked, reached, stays, AreByLow, ArePlaces};
+ghost use Rattle.column_block.specs.Order.{rises};
 
 use crate::Memory;
 use crate::sweep::{is_reached, swept};
-use column_block::{Block, Version};
+use column_block::{Block, Version, is_before};
 use flash_types::HandleRange;
-use stable_file::is_before;
 use std::alloc::Global;
 
 // The places of the first `count` versions, the stable ones, that count.

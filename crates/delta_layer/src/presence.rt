@@ -1,9 +1,9 @@
 // The versions that are present in a segment.
 ghost use Rattle.std.specs.Prelude.{◌≡◌, ◌++◌, take, map, slice_get, Some, IfOk, IsTrue};
 ghost use Rattle.stable_file.specs.Faults.{HasReadCause};
-ghost use Rattle.version_gc.specs.Keep.{Rise};
+ghost use Rattle.column_block.specs.Order.{Rise, rises};
 ghost use Rattle.delta_layer.specs.Files.{files_of};
-ghost use Rattle.delta_layer.specs.Overlay.{picked, rises, ArePlaces};
+ghost use Rattle.delta_layer.specs.Overlay.{picked, ArePlaces};
 ghost use Rattle.delta_layer.specs.Present.{ArePresent, AreWithin, GivesPresent};
 
 use crate::Memory;

@@ -2,14 +2,13 @@
 ghost use Rattle.std.specs.Prelude.{◌≡◌, ◌<◌, ◌++◌, true, length, slice_get, IfOk, OnOk, IsTrue, Ok, Some};
 ghost use Rattle.stable_file.specs.Faults.{GivesOrDevice, HasReadCause};
 ghost use Rattle.stable_file.specs.Opened.{packs_of, schema_of, grip_of};
-ghost use Rattle.stable_file.specs.Packs.{rise};
+ghost use Rattle.column_block.specs.Order.{rise, rises};
 ghost use Rattle.stable_file.specs.declared.pack.Pack.{Pack};
-ghost use Rattle.delta_layer.specs.Overlay.{rises};
 ghost use Rattle.delta_layer.specs.Stable.{packs_in, stable_in, with_pack};
 
-use column_block::Block;
+use column_block::{Block, is_before};
 use flash_io::Reader;
-use stable_file::{ReadError, StableFile, is_before, read_pack};
+use stable_file::{ReadError, StableFile, read_pack};
 use std::alloc::Global;
 
 // The versions of a segment's stable part, in order.

@@ -3,7 +3,8 @@ use Rattle.std.proofs.Common.{◌≡◌, ◌∙◌, ℕ, List, [], ◌∷◌, Bo
 use Rattle.column_block.specs.declared.cell.Version.{Version}
 use Rattle.column_block.specs.declared.column.Column.{Column}
 use Rattle.flash_types.specs.declared.range.HandleRange.{HandleRange}
-use Rattle.version_gc.specs.Keep.{is_kept, keep, Rise}
+use Rattle.version_gc.specs.Keep.{is_kept, keep}
+use Rattle.column_block.specs.Order.{Rise}
 use Rattle.version_gc.proofs.Collections.{kept_rise}
 use Rattle.delta_layer.specs.Built.{IsOne, IsSegment}
 use Rattle.delta_layer.specs.Pieces.{IsStablePiece}

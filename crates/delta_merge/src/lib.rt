@@ -3,6 +3,8 @@
 //! snapshot alone, and changes nothing.
 #![tactic(auto)]
 
+mod laws;
+
 ghost use Rattle.std.specs.Prelude.{◌≡◌, ◌<◌, ◌∷◌, [], IfOk};
 ghost use Rattle.delta_layer.specs.Built.{HasBuildCause, NeverOneHandle};
 ghost use Rattle.delta_layer.specs.declared.built.Job.TheVariants.{MergeDelta};
@@ -15,6 +17,7 @@ use delta_layer::{
 use flash_io::Reader;
 use flash_list::Items;
 use flash_types::Ts;
+pub use laws::delta_merges_are_read_again;
 use std::alloc::Global;
 use version_gc::keep;
 

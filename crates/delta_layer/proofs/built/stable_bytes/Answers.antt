@@ -1,5 +1,5 @@
 use Rattle.std.proofs.Common.{◌∙◌}
-use Rattle.delta_layer.proofs.Order.{rise_of}
+use Rattle.column_block.proofs.Ordered.{rise_of}
 use Rattle.delta_layer.proofs.Sweeping.{stays_here}
 use Rattle.delta_layer.proofs.Places.{filter_step}
 use Rattle.delta_layer.proofs.Overlaid.{are_present}

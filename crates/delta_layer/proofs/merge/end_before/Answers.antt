@@ -1,6 +1,6 @@
 use Rattle.std.proofs.Common.{◌∙◌, sym, arith}
 use Rattle.column_block.specs.declared.cell.Version.{Version}
-use Rattle.stable_file.specs.Packs.{is_before}
+use Rattle.column_block.specs.Order.{is_before}
 use Rattle.delta_layer.proofs.Places.{prefix_on, prefix_stop}
 use Rattle.delta_layer.proofs.merge.end_before.Goals as goal
 

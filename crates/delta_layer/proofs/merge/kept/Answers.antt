@@ -1,7 +1,7 @@
 use Rattle.std.proofs.Common.{◌≡◌, ◌∙◌, ◌<◌, length, take, refl, sym, arith}
 use Rattle.flash_types.specs.Ranges.{holds}
 use Rattle.delta_layer.specs.Overlay.{stays, reached}
-use Rattle.delta_layer.proofs.Order.{up_from_rises}
+use Rattle.column_block.proofs.Ordered.{up_from_rises}
 use Rattle.delta_layer.proofs.Places.{filter_step, places_if}
 use Rattle.delta_layer.proofs.Sweeping.{stays_here, swept_more}
 use Rattle.delta_layer.proofs.merge.kept.Goals as goal

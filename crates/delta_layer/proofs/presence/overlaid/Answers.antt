@@ -1,6 +1,6 @@
 use Rattle.std.proofs.Common.{◌∙◌, ap, drop}
 use Rattle.delta_layer.specs.Overlay.{any_holds, merged, picked}
-use Rattle.delta_layer.proofs.Order.{up_from_rises}
+use Rattle.column_block.proofs.Ordered.{up_from_rises}
 use Rattle.delta_layer.proofs.Overlaid.{overlay_is}
 use Rattle.delta_layer.proofs.presence.overlaid.Goals as goal
 

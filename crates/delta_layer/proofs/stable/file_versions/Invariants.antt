@@ -1,6 +1,6 @@
 use Rattle.std.proofs.Common.{◌≡◌, ◌≤◌, true, take, Ok}
 use Rattle.stable_file.specs.Opened.{packs_of, schema_of, grip_of}
-use Rattle.delta_layer.specs.Overlay.{rises}
+use Rattle.column_block.specs.Order.{rises}
 use Rattle.delta_layer.specs.Stable.{packs_in}
 use Rattle.delta_layer.proofs.stable.file_versions.Given as goal
 

@@ -1,5 +1,5 @@
 use Rattle.std.proofs.Common.{◌∙◌, sym}
-use Rattle.delta_layer.proofs.Order.{rise_is}
+use Rattle.column_block.proofs.Ordered.{rise_is}
 use Rattle.segment_tests.proofs.layers.versions.Goals as goal
 
 pub stable_piece-requires-clause-rise : goal.stable_piece-requires-clause-rise
