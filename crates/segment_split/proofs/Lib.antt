@@ -1,2 +1,3 @@
 mod Cut
 mod Handles
+mod Suited

@@ -6,7 +6,7 @@ use Rattle.column_block.specs.declared.cell.Version.{Version}
 use Rattle.column_block.specs.declared.column.Column.{Column}
 use Rattle.flash_types.specs.Ranges.{holds}
 use Rattle.flash_types.specs.declared.range.HandleRange.{HandleRange}
-use Rattle.version_gc.specs.Keep.{Rise}
+use Rattle.column_block.specs.Order.{Rise}
 use Rattle.delta_layer.specs.Built.{AreTwo, IsSegment, FailsAs}
 use Rattle.delta_layer.specs.Present.{AreWithin, IsPresent}
 use Rattle.delta_layer.specs.Stable.{stable_in}

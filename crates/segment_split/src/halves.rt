@@ -1,7 +1,7 @@
 // The two segments that take the place of one.
 ghost use Rattle.std.specs.Prelude.{◌≡◌, ◌<◌, ◌≤◌, ◌++◌, ◌∷◌, [], true, false, length, take, drop, int_lt, IfOk};
 ghost use Rattle.std.specs.List.{AllByRecursion};
-ghost use Rattle.version_gc.specs.Keep.{Rise};
+ghost use Rattle.column_block.specs.Order.{Rise};
 ghost use Rattle.delta_layer.specs.Built.{HasBuildCause, NeverOneHandle};
 ghost use Rattle.delta_layer.specs.Present.{AreWithin};
 ghost use Rattle.delta_layer.specs.declared.built.Job.TheVariants.{Split};

@@ -3,7 +3,9 @@
 #![tactic(auto)]
 
 mod halves;
+mod laws;
 mod middle;
 
 pub use halves::{build, halves_part};
+pub use laws::splits_are_read_again;
 pub use middle::choose;
