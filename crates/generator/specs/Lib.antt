@@ -1,0 +1,4 @@
+pub mod Transactions
+pub mod Generated
+pub mod Moments
+pub mod Examples
