@@ -17,7 +17,7 @@ use Rattle.committed_log.specs.declared.op.FamilyOp.{FamilyOp}
 use Rattle.committed_log.specs.declared.op.FamilyOp.TheVariants as family_op
 use Rattle.committed_log.specs.declared.op.LastCommit.{LastCommit}
 use Rattle.committed_log.specs.declared.region.Descriptor.{Descriptor}
-use Rattle.committed_log.specs.Admission.{head_fault, ops_fault, ops_fault_from, op_fault, change_fault, fault_at, backdated_fault, value_fault, row_fault_of, least_taken}
+use Rattle.committed_log.specs.Admission.{head_fault, ops_fault, ops_fault_from, op_fault, change_fault, commit_fault as fault_of_commit, fault_at, backdated_fault, value_fault, row_fault_of, least_taken}
 use Rattle.committed_log.specs.Changes.{change_of, commit_of}
 use Rattle.committed_log.specs.Regions.{region, range_of, with_region, regions_step}
 use Rattle.committed_log.specs.declared.region.Region.TheVariants.{Unborn, Live}
@@ -147,7 +147,7 @@ module _ (table : ℤ) (schema : List Column) (range : HandleRange) (p : ℕ) (t
 
     module _ (gone : Bool) (short : Option (List ℕ)) (record_is : change_of table range (write_op table t) ≡ Ok (Some (family_op.Write t.handle t.commit t.start gone short))) where
       commit_none : (k : ℕ) → cond gone None (value_fault schema (committed_value gone short (value s.values t.handle t.start)) k) ≡ None → op_fault table schema range s k (write_op table t) ≡ None
-      commit_none k none = no_fault table schema range p s (write_op table t) (family_op.Write t.handle t.commit t.start gone short) record_is k (rw (not_repeated gone) (rw (not_backdated k) none))
+      commit_none k none = no_fault table schema range p s (write_op table t) (family_op.Write t.handle t.commit t.start gone short) record_is k (rw (not_repeated gone, fault_of_commit) (rw (not_backdated k) none))
 
       commit_added : after_op table range p s (write_op table t) ≡ record s { commits = s.commits ++ added (committed_value gone short (value s.values t.handle t.start)) ∷ [] }
       commit_added = changes table schema range p s (write_op table t) (family_op.Write t.handle t.commit t.start gone short) record_is ∙ (rw (not_repeated gone) refl)
