@@ -2,7 +2,7 @@
 use Rattle.std.proofs.Common.{◌≡◌, ℕ, ◌+◌, ◌≤◌, false, true, ltb, List, [], ◌∷◌, ◌++◌, length, take, drop, Some, None, Ok, inl, inr, ⊎_elim, refl, sym, ap, ◌∙◌, subst, arith}
 use Rattle.std.specs.Prelude.{Bool, ◌⊎◌, if◌then◌else◌}
 use Rattle.std.proofs.lemmas.Bool.{cases_eq}
-use Rattle.flash_io.specs.Image.{Image, Holds, SameBut}
+use Rattle.flash_io.specs.Image.{Image, Holds}
 use Rattle.flash_io.specs.Crash.{TornBytes, Durable, NoNew, Created, Torn}
 use Rattle.manifest_form.specs.Walk.{walk, root_step, root_of}
 use Rattle.manifest_form.specs.Takes.{ClosedAt}

@@ -1,4 +1,4 @@
-use Rattle.std.proofs.Common.{[], refl, inl, inr, ⊎_elim}
+use Rattle.std.proofs.Common.{[], refl, inr}
 use Rattle.flash_io.proofs.Moments.{weaken, then}
 use Rattle.manifest.specs.Gated.{IsBeforeOrAfter}
 use Rattle.manifest.specs.Made.{OldOrNone, OldOrMade}
