@@ -1,5 +1,5 @@
 -- A store that is made.
-use Rattle.std.proofs.Common.{◌≡◌, ◌≢◌, ℕ, ℤ, ◌+◌, ◌<◌, ◌^◌, List, [], ◌∷◌, ◌++◌, length, Option, Some, None, Ok, inl, inr, ⊎_elim, refl, sym, ap, ◌∙◌, subst, append_assoc, arith}
+use Rattle.std.proofs.Common.{◌≡◌, ◌≢◌, ℕ, ℤ, ◌+◌, ◌<◌, ◌^◌, List, [], ◌∷◌, ◌++◌, length, Option, Some, None, Ok, inl, inr, ⊎_elim, refl, sym, ap, ◌∙◌, subst, append_assoc, length-append, arith}
 use Rattle.std.specs.Prelude.{FitsSigned, Result, Err, OnOk}
 use Rattle.std.specs.List.{All, flat_map}
 use Rattle.std.specs.Int.{w64, to_be_bytes}
@@ -24,10 +24,10 @@ use Rattle.manifest_form.proofs.HeaderAgain.{header_again}
 use Rattle.manifest_form.proofs.Fronts.{record_again}
 use Rattle.manifest_form.proofs.Taking.{none, more, reads}
 use Rattle.manifest.specs.declared.store.Manifest.{Manifest}
-use Rattle.manifest.specs.Gated.{with_record, IsSteady, IsBeforeOrAfter}
+use Rattle.manifest.specs.Gated.{with_record, IsSteady, IsCommitted, IsBeforeOrAfter}
 use Rattle.manifest.specs.Stores.{IsNew, IsKept, has_of}
-use Rattle.manifest.specs.Made.{first_edits, first_state, store_of, Apart, NewOrMade}
-use Rattle.manifest.proofs.Making.{closed_root}
+use Rattle.manifest.specs.Made.{first_edits, first_state, store_of, HasGate, IsUnmade, Apart, NewOrMade, OldOrNone, OldOrMade}
+use Rattle.manifest.proofs.Making.{lacks_short, closed_gate, closed_root}
 use Rattle.manifest.proofs.Stays.{answer, names_file}
 
 abbrev pub name : List ℕ
@@ -77,14 +77,14 @@ first_after chain = refl
 
 -- ---- images
 
-module _ (old mid : Image → Type 0) (bytes : List ℕ) (has : Recovered) (read : manifest_of 1 bytes ≡ Ok has) (apart : (c : Image) → mid c → Apart old c × IsNew c) (durable : Durable 1 bytes mid) where
+module _ (old mid : Image → Type 0) (bytes : List ℕ) (has : Recovered) (read : manifest_of 1 bytes ≡ Ok has) (apart : (c : Image) → mid c → Apart old c) (durable : Durable 1 bytes mid) where
   one_is_not_zero : ◌≡◌ {A = ℕ} 1 0 → ⊥
   one_is_not_zero e = absurd (cc e)
 
   pub root_opened : (c : Image) → OneFile 0 mid (IsBeforeOrAfter [] name) c → NewOrMade old has c
   root_opened c one =
       let d = one.0.0 in
-      let was = (apart d one.0.1).0 in (
+      let was = apart d one.0.1 in (
         (was.0, was.1, λ file a b. one.0.2 file a ∙ was.2 file a b),
         ⊎_elim
             (λ before. inl (inr (before.0, before.1, closed_root before.0 before.2)))
@@ -95,6 +95,16 @@ module _ (old mid : Image → Type 0) (bytes : List ℕ) (has : Recovered) (read
               reads = read;
             })) one.1,
       )
+
+-- where the root's record was or wasn't committed, the root has its first gate
+pub opened_unmade : (files : Image) (mid new : Image → Type 0) → ((c : Image) → new c → new files) → ((c : Image) → new c → OneFile 0 mid (IsBeforeOrAfter [] name) c) → IsUnmade files new
+opened_unmade files mid new reads each = inr (inr (λ c left. ⊎_elim closed made (each files (reads c left)).1))
+  where
+    closed : IsCommitted [] (files 0) → HasGate files
+    closed before = (before.0, before.1, closed_gate before.0 before.2)
+
+    made : IsCommitted (with_record [] name) (files 0) → HasGate files
+    made after = (after.0, after.1, λ lacks. absurd (omega (arith, lacks_short after.0 lacks, ap length after.2.is, length-append (with_record [] name) (after.2.gate ∷ after.2.rest))))
 
 -- the new manifest on its disk
 pub kept_new : (outcomes : Image → Type 0) (bytes : List ℕ) (m : Manifest) → m.file ≡ 1 → m.root_at ≡ 13 → Closes (IsManifest 1 (has_of m)) m.at bytes → IsSteady 0 (with_record [] name) outcomes → Durable 1 bytes outcomes → IsKept outcomes m
@@ -108,10 +118,10 @@ kept_new outcomes bytes m file root_at closes steady durable = record {
 }
 
 -- nothing is committed while file 1 is made
-pub staged_new : (old mid : Image → Type 0) (n : ℕ) → IsSteady 0 [] mid → ((c : Image) → mid c → Apart old c × IsNew c) → (c : Image) → (d : Image) × mid d × Created 1 n d c → Apart old c × IsNew c
+pub staged_new : (old mid : Image → Type 0) (n : ℕ) → IsSteady 0 [] mid → ((c : Image) → mid c → Apart old c) → (c : Image) → (d : Image) × mid d × Created 1 n d c → Apart old c × IsNew c
 staged_new old mid n steady apart c made =
     let d = made.0 in
-    let was = (apart d made.1).0 in
+    let was = apart d made.1 in
     let same : c 0 ≡ d 0 = made.2.0 0 (λ e. absurd (cc e)) in
     ((was.0, was.1, λ file a b. made.2.0 file b ∙ was.2 file a b), inr (steady.0, same ∙ steady.2 d made.1, closed_root steady.0 steady.1))
 
@@ -127,3 +137,13 @@ file_stays file apart mid new bytes P durable each c left = let one = each c lef
 pub ok_so : {X E P : Type 0} (r : Result X E) → P → OnOk r P
 ok_so (Ok x) p = p
 ok_so (Err e) p = tt
+
+-- ---- an image while a store is made
+
+pub none_or_made : (old : Image → Type 0) (has : Recovered) (c : Image) → OldOrNone old c → OldOrMade old has c
+none_or_made old has c (inl now) = inl now
+none_or_made old has c (inr (apart, new)) = inr (apart, inl new)
+
+pub none_apart : (old : Image → Type 0) (c : Image) → OldOrNone old c → Apart old c
+none_apart old c (inl now) = (c, now, λ file a b. refl)
+none_apart old c (inr (apart, new)) = apart

@@ -50,7 +50,7 @@ module _ (m : Manifest) where
   next_apart is = omega (arith, below_next, is)
 
   -- the old store in an image in which neither the root nor its file differ
-  stands_in : (old : Image → Type 0) → IsKept old m → (c d : Image) → old d → c 0 ≡ d 0 → c m.file ≡ d m.file → HasStore c m.file (has_of m)
+  pub stands_in : (old : Image → Type 0) → IsKept old m → (c d : Image) → old d → c 0 ≡ d 0 → c m.file ≡ d m.file → HasStore c m.file (has_of m)
   stands_in old kept c d now root file = record {
     names = (kept.root, root ∙ kept.root_held d now, names_file m.file m.root_at kept.root kept.root_closes m.named);
     content = kept.content;

@@ -1,5 +1,5 @@
 -- A manifest whose state is what it was is the same.
-use Rattle.std.proofs.Common.{◌≡◌, ◌∙◌, refl, ℕ, ◌<◌, true, List, []}
+use Rattle.std.proofs.Common.{◌≡◌, ◌∙◌, refl, ◌<◌, ◌+◌, ◌^◌, true, List, []}
 use Rattle.std.specs.Prelude.{Result, Ok, Err, OnErr}
 use mathlib.Core.HLevel.{is_prop→PathP}
 use mathlib.Core.Bool.{Bool-set}
@@ -27,6 +27,7 @@ same_manifest m n alloc file at root_at table columns state steadied = λ i. rec
   lawful = is_prop→PathP (λ i. IsSchema (columns i)) (λ i. Prim.hlevel props) n.lawful m.lawful i;
   differ = is_prop→PathP (λ i. IdsDiffer (state i).segments) (λ i. IdsDiffer-prop (state i).segments) n.differ m.differ i;
   named = is_prop→PathP (λ i. 0 < root_at i) (λ i. Prim.hlevel props) n.named m.named i;
+  within = is_prop→PathP (λ i. at i + 1 < 2 ^ 64) (λ i. Prim.hlevel props) n.within m.within i;
 }
 
 pub on_err : {T E : Type 0} {P : Type 0} (r : Result T E) → P → OnErr r P

@@ -32,13 +32,33 @@ pub record IsFresh (table : ℤ) (columns : List Column) (chain : List ℕ) (m :
   pub has : has_of m ≡ new_store table columns chain
   pub steadied : m.steadied ≡ true
 
--- all files as they were; or file 0, which wasn't there, made with one byte at most; or a root of one byte at most torn in its first byte
-abbrev pub MadeReady : Image → (Image → Type 0) → Image → Type 0
-MadeReady files old c = (d : Image) × old d × (((file : ℕ) → c file ≡ d file) ⊎ (((files 0 ≡ None) × Created 0 1 d c) ⊎ (((root : List ℕ) × Holds files 0 root × (length root ≤ 1)) × Torn 0 0 1 d c)))
+-- ---- where a store may be made
 
--- nothing was committed in any image, and each has the root as the disk reads
+-- a root of one byte at most
+abbrev pub HasShortRoot : Image → Type 0
+HasShortRoot c = (root : List ℕ) × Holds c 0 root × (length root ≤ 1)
+
+-- no file, but perhaps a root of one byte at most
+abbrev pub IsBare : Image → Type 0
+IsBare c = ((file : ℕ) → file ≢ 0 → c file ≡ None) × ((c 0 ≡ None) ⊎ HasShortRoot c)
+
+-- a root whose first gate isn't there: it has no byte, or the one byte 1
+abbrev pub LacksGate : List ℕ → Type 0
+LacksGate root = (root ≡ []) ⊎ (root ≡ 1 ∷ [])
+
+-- a root whose first gate is there
+abbrev pub HasGate : Image → Type 0
+HasGate c = (root : List ℕ) × Holds c 0 root × (LacksGate root → ⊥)
+
+-- Each image is bare, or each has a root of one byte at most, or the root as the disk reads has its first gate. In the last case nothing is asked of the images: a sync gives each of them that root.
 abbrev pub IsUnmade : Image → (Image → Type 0) → Type 0
-IsUnmade files outcomes = (c : Image) → outcomes c → IsNew c × (c 0 ≡ files 0)
+IsUnmade files outcomes = ((c : Image) → outcomes c → IsBare c) ⊎ (((c : Image) → outcomes c → HasShortRoot c) ⊎ ((c : Image) → outcomes c → HasGate files))
+
+-- ---- images while a store is made
+
+-- an old image; or one where file 0, which doesn't read as there, was made with one byte at most; or one where a root without its first gate was torn in its first byte
+abbrev pub MadeReady : Image → (Image → Type 0) → Image → Type 0
+MadeReady files old c = old c ⊎ ((d : Image) × old d × (((files 0 ≡ None) × Created 0 1 d c) ⊎ (((root : List ℕ) × Holds files 0 root × LacksGate root) × Torn 0 0 1 d c)))
 
 -- but for files 0 and 1 the image is an old one
 abbrev pub Apart : (Image → Type 0) → Image → Type 0
@@ -47,3 +67,11 @@ Apart old c = (d : Image) × old d × ((file : ℕ) → file ≢ 0 → file ≢ 
 -- nothing was committed or the new store is there whole, and all other files are as they might have been
 abbrev pub NewOrMade : (Image → Type 0) → Recovered → Image → Type 0
 NewOrMade old has c = Apart old c × (IsNew c ⊎ HasStore c 1 has)
+
+-- an old image, or one in which nothing was committed, and all files but 0 and 1 are as they might have been
+abbrev pub OldOrNone : (Image → Type 0) → Image → Type 0
+OldOrNone old c = old c ⊎ (Apart old c × IsNew c)
+
+-- an old image, or one in which nothing was committed or the new store is there whole, and all files but 0 and 1 are as they might have been
+abbrev pub OldOrMade : (Image → Type 0) → Recovered → Image → Type 0
+OldOrMade old has c = old c ⊎ NewOrMade old has c

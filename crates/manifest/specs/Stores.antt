@@ -1,5 +1,5 @@
 -- What an image of a disk has of a store, and what a manifest has of its disk.
-use Rattle.std.specs.Prelude.{◌≡◌, ◌⊎◌, ℕ, List, Option, Some, None, Result, Ok, Err}
+use Rattle.std.specs.Prelude.{◌≡◌, ◌⊎◌, ℕ, ◌<◌, List, Option, Some, None, Result, Ok, Err}
 use Rattle.flash_io.specs.Image.{Image, Holds, IsThere}
 use Rattle.flash_io.specs.Crash.{Durable}
 use Rattle.manifest_form.specs.declared.fault.Fault.TheVariants.{At}
@@ -91,3 +91,7 @@ IsRead tells files m = Stands (λ file bytes. tells → Holds files file bytes) 
 -- in each outcome of a crash
 abbrev pub IsKept : (Image → Type 0) → Manifest → Type 0
 IsKept outcomes m = Stands (λ file bytes. Durable file bytes outcomes) m
+
+-- in all files below this one it is an old image, as while files from it on are staged
+abbrev pub Beneath : ℕ → (Image → Type 0) → Image → Type 0
+Beneath first old c = (d : Image) × old d × ((file : ℕ) → file < first → c file ≡ d file)

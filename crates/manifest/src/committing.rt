@@ -7,7 +7,8 @@ ghost use Rattle.flash_io.specs.Faults.{Rose};
 ghost use Rattle.manifest_form.specs.Spelling as spelling;
 ghost use Rattle.manifest_form.specs.Spelling.{EditFits};
 ghost use Rattle.manifest_form.specs.States.{all_done, is_formed};
-ghost use Rattle.manifest.specs.Runs.{Counted, OldOrNew};
+ghost use Rattle.flash_io.specs.Runs.{Counted};
+ghost use Rattle.manifest.specs.Runs.{OldOrNew};
 ghost use Rattle.manifest.specs.Stores.{IsKept, Becomes, has_of, has_with};
 
 use crate::fault::CommitError;

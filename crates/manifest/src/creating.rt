@@ -1,5 +1,5 @@
 // Making a store.
-ghost use Rattle.std.specs.Prelude.{◌≡◌, ◌≢◌, ◌∷◌, [], ℕ, ◌<◌, length, true, Some, None, Ok, OnOk, IfOk, IsErrOf};
+ghost use Rattle.std.specs.Prelude.{◌≡◌, ◌≢◌, ◌∷◌, [], ℕ, ◌<◌, length, true, Some, None, Ok, OnOk, OnErr, IfOk, IsErrOf};
 ghost use Rattle.flash_io.specs.Crash.{Durable, LeavesOnly};
 ghost use Rattle.flash_io.specs.Faults.{Rose};
 ghost use Rattle.column_block.specs.Schemas.{IsSchema};
@@ -9,8 +9,8 @@ ghost use Rattle.manifest_form.specs.States.{after_record};
 ghost use Rattle.manifest_form.specs.Takes.{IsManifest, Closes};
 ghost use Rattle.manifest_form.specs.Walk.{manifest_of};
 ghost use Rattle.manifest.specs.Gated.{with_record, IsSteady};
-ghost use Rattle.manifest.specs.Made.{first_edits, store_of, new_store, IsFresh, IsUnmade, Apart, NewOrMade};
-ghost use Rattle.manifest.specs.Runs.{Counted};
+ghost use Rattle.manifest.specs.Made.{first_edits, store_of, new_store, IsFresh, IsUnmade, OldOrNone, OldOrMade};
+ghost use Rattle.flash_io.specs.Runs.{Counted};
 ghost use Rattle.manifest.specs.Stores.{IsNew, IsKept, has_of};
 
 use crate::committing::spelled;
@@ -105,7 +105,8 @@ fn settled(mut manifest: Manifest) -> Manifest
 fn lay<D: Disk>(alloc: Global, disk: &mut D, bytes: &[u8]) -> Result<(), DiskFault>
     ensures root { OnOk result (IsSteady 0 [] (D.may_leave disk.new)) }
     ensures staged { OnOk result (Durable 1 bytes.now (D.may_leave disk.new)) }
-    ensures any_moment { IsUnmade (D.files disk.old) (D.may_leave disk.old) → LeavesOnly D.moment D.left_since disk.old disk.new (λ c. Apart (D.may_leave disk.old) c × IsNew c) }
+    ensures any_moment { IsUnmade (D.files disk.old) (D.may_leave disk.old) → LeavesOnly D.moment D.left_since disk.old disk.new (OldOrNone (D.may_leave disk.old)) }
+    ensures unmade { IsUnmade (D.files disk.old) (D.may_leave disk.old) → IsUnmade (D.files disk.new) (D.may_leave disk.new) }
     ensures others { (file : ℕ) → file ≢ 0 → file ≢ 1 → D.files disk.new file ≡ D.files disk.old file }
     ensures counted { Counted D.fault_count D.reader_fault_count D.never_fails disk.old disk.new }
     ensures failed { IsErrOf result DiskFault.Failed → Rose (D.fault_count disk.old) (D.fault_count disk.new) }
@@ -118,7 +119,8 @@ fn lay<D: Disk>(alloc: Global, disk: &mut D, bytes: &[u8]) -> Result<(), DiskFau
 fn establish<D: Disk>(alloc: Global, disk: &mut D, bytes: &[u8]) -> Result<(), CommitError>
     ensures root { OnOk result (IsSteady 0 (with_record [] (0 ∷ 0 ∷ 0 ∷ 1 ∷ [])) (D.may_leave disk.new)) }
     ensures staged { OnOk result (Durable 1 bytes.now (D.may_leave disk.new)) }
-    ensures any_moment { (has : Recovered) → manifest_of 1 bytes.now ≡ Ok has → IsUnmade (D.files disk.old) (D.may_leave disk.old) → LeavesOnly D.moment D.left_since disk.old disk.new (NewOrMade (D.may_leave disk.old) has) }
+    ensures any_moment { (has : Recovered) → manifest_of 1 bytes.now ≡ Ok has → IsUnmade (D.files disk.old) (D.may_leave disk.old) → LeavesOnly D.moment D.left_since disk.old disk.new (OldOrMade (D.may_leave disk.old) has) }
+    ensures unmade { IsUnmade (D.files disk.old) (D.may_leave disk.old) → IsUnmade (D.files disk.new) (D.may_leave disk.new) }
     ensures others { (file : ℕ) → file ≢ 0 → file ≢ 1 → D.files disk.new file ≡ D.files disk.old file }
     ensures counted { Counted D.fault_count D.reader_fault_count D.never_fails disk.old disk.new }
     ensures device { IsErrOf result CommitError.Device → Rose (D.fault_count disk.old) (D.fault_count disk.new) }
@@ -131,6 +133,9 @@ fn establish<D: Disk>(alloc: Global, disk: &mut D, bytes: &[u8]) -> Result<(), C
 /// no entries. Nothing was ever committed on the disk, where it tells its content; a half-made
 /// root, with what stands behind its closed gate, and other files don't matter. A disk that has a
 /// committed root all the same is left as it is, and the answer is `Memory`.
+///
+/// What is asked of the images that the disk may leave (`IsUnmade`) holds of a disk with one image,
+/// in which nothing was committed, and still holds after a failed try.
 ///
 /// File 0 is made with a closed gate, or one is written over a root of no byte or of the one byte
 /// 1, and synced; file 1 is made and synced; then its number is committed to the root.
@@ -145,8 +150,11 @@ pub fn create<D: Disk>(
     ensures made { IfOk result (IsFresh table schema.now chain) }
     ensures kept { IfOk result (IsKept (D.may_leave disk.new)) }
 
-    // Where nothing was committed in any image, a crash at each moment of the call leaves nothing committed, or the new store whole.
-    ensures any_moment { IsUnmade (D.files disk.old) (D.may_leave disk.old) → LeavesOnly D.moment D.left_since disk.old disk.new (NewOrMade (D.may_leave disk.old) (new_store table schema.now chain)) }
+    // A crash at each moment of the call leaves an old image, or one in which nothing was committed or the new store is whole.
+    ensures any_moment { IsUnmade (D.files disk.old) (D.may_leave disk.old) → LeavesOnly D.moment D.left_since disk.old disk.new (OldOrMade (D.may_leave disk.old) (new_store table schema.now chain)) }
+
+    // So it is of a second try on the disk that a failed one left.
+    ensures unmade { IsUnmade (D.files disk.old) (D.may_leave disk.old) → OnErr result (IsUnmade (D.files disk.new) (D.may_leave disk.new)) }
     ensures others { (file : ℕ) → file ≢ 0 → file ≢ 1 → D.files disk.new file ≡ D.files disk.old file }
     ensures counted { Counted D.fault_count D.reader_fault_count D.never_fails disk.old disk.new }
     ensures device { IsErrOf result CommitError.Device → Rose (D.fault_count disk.old) (D.fault_count disk.new) }

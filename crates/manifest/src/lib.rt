@@ -7,6 +7,7 @@ mod creating;
 mod durable;
 mod fault;
 mod gated;
+mod laws;
 mod reading;
 mod ready;
 mod rolling;
@@ -17,5 +18,6 @@ mod store;
 
 pub use creating::create;
 pub use fault::{CommitError, ManifestError};
+pub use laws::{images_have_the_store, kept_elsewhere, one_new_image_is_unmade};
 pub use reading::open;
 pub use store::Manifest;

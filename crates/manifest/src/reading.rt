@@ -1,5 +1,5 @@
 // Opening a store.
-ghost use Rattle.std.specs.Prelude.{◌≡◌, ◌<◌, ◌↔◌, [], ℕ, List, length, Some, None, Ok, true, false, OnOk, IfOk, IfSome, IsErrOf, Contains};
+ghost use Rattle.std.specs.Prelude.{◌≡◌, ◌<◌, ◌+◌, ◌^◌, ◌↔◌, [], ℕ, List, length, Some, None, Ok, true, false, OnOk, IfOk, IfSome, IsErrOf, Contains};
 ghost use Rattle.flash_io.specs.Image.{IsThere, Holds};
 ghost use Rattle.flash_io.specs.Faults.{Rose};
 ghost use Rattle.manifest_form.specs.Takes.{IsRoot, IsManifest, Closes};
@@ -9,48 +9,13 @@ ghost use Rattle.manifest_form.specs.States.{is_formed};
 ghost use Rattle.manifest_form.specs.Whole.{IdsDiffer};
 ghost use Rattle.manifest.specs.Stores.{OpensAs, IsRead, has_of};
 ghost use Rattle.manifest.specs.Found.{refusal_of, RootAnswers, Finds, FindsAll};
-ghost use Rattle.manifest.specs.Runs.{Untouched, Counted};
+ghost use Rattle.flash_io.specs.Runs.{Untouched, Counted};
 
 use crate::fault::ManifestError;
 use crate::store::Manifest;
-use flash_io::{Disk, DiskFault, FileId};
+use flash_io::{Disk, FileId, read_file};
 use manifest_form::{Fault, Header, Recovered, RootEnd, manifest_of, named};
 use std::alloc::Global;
-
-// The bytes that are asked for at a time.
-const PIECE: u32 = 1 << 20;
-
-// Appends all bytes of a file.
-fn fill<D: Disk>(disk: &mut D, file: FileId, into: &mut Vec<u8>) -> Result<(), DiskFault>
-    requires there { D.tells → IsThere (D.files disk.old) file }
-    requires empty { into.old.items ≡ [] }
-    ensures told { D.tells → OnOk result (Holds (D.files disk.old) file into.new.items) }
-    ensures untouched { Untouched D.files D.may_leave D.moment D.left_since disk.old disk.new }
-    ensures counted { Counted D.fault_count D.reader_fault_count D.never_fails disk.old disk.new }
-    ensures failed { IsErrOf result DiskFault.Failed → Rose (D.fault_count disk.old) (D.fault_count disk.new) }
-{
-    for _ in 0..u64::MAX {
-        let at = into.len() as u64;
-        let count = disk.read(file, at, PIECE, into)?;
-        if count < PIECE as usize {
-            return Ok(());
-        }
-    }
-    Err(DiskFault::Memory)
-}
-
-/// All bytes of a file.
-pub fn read_file<D: Disk>(alloc: Global, disk: &mut D, file: FileId) -> Result<Vec<u8>, DiskFault>
-    requires there { D.tells → IsThere (D.files disk.old) file }
-    ensures told { D.tells → IfOk result (λ bytes. Holds (D.files disk.old) file bytes.items) }
-    ensures untouched { Untouched D.files D.may_leave D.moment D.left_since disk.old disk.new }
-    ensures counted { Counted D.fault_count D.reader_fault_count D.never_fails disk.old disk.new }
-    ensures failed { IsErrOf result DiskFault.Failed → Rose (D.fault_count disk.old) (D.fault_count disk.new) }
-{
-    let mut bytes = Vec::new(alloc);
-    fill(disk, file, &mut bytes)?;
-    Ok(bytes)
-}
 
 // The refusal of a file that has this fault.
 fn refusal(file: FileId, fault: Fault) -> ManifestError
@@ -70,6 +35,7 @@ fn made(alloc: Global, name: RootEnd, has: Recovered, at: u64) -> Manifest
     requires formed { is_formed name.file has.state ≡ true }
     requires lawful { IsSchema has.header.columns }
     requires differ { IdsDiffer has.state.segments }
+    requires within { at + 1 < 2 ^ 64 }
     ensures { (result.file ≡ name.file) × (result.root_at ≡ name.at) × (result.steadied ≡ false) × (has_of result ≡ has) × (result.at ≡ at) }
 {
     let Recovered { header, state } = has;

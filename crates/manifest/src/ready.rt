@@ -1,16 +1,16 @@
 // The root before anything is committed.
-ghost use Rattle.std.specs.Prelude.{◌≡◌, ◌≤◌, [], ◌∷◌, ℕ, List, length, true, false, None, IfOk, OnOk, IsErrOf};
+ghost use Rattle.std.specs.Prelude.{◌≡◌, [], ◌∷◌, ℕ, List, true, false, None, IfOk, OnOk, IsErrOf};
 ghost use Rattle.flash_io.specs.Image.{Image, Holds, SameBut, IsThere};
 ghost use Rattle.flash_io.specs.Crash.{Durable, Torn, LeavesOnly};
 ghost use Rattle.flash_io.specs.Faults.{Rose};
 ghost use Rattle.manifest.specs.Gated.{IsSteady};
 ghost use Rattle.manifest.specs.Gates.{GateIs};
-ghost use Rattle.manifest.specs.Made.{MadeReady};
-ghost use Rattle.manifest.specs.Runs.{Untouched, Counted};
+ghost use Rattle.manifest.specs.Made.{LacksGate, MadeReady, IsUnmade};
+ghost use Rattle.flash_io.specs.Runs.{Untouched, Counted};
 
 use crate::durable::stage;
-use crate::reading::{lists, read_file};
-use flash_io::{Disk, DiskFault, Failed};
+use crate::reading::lists;
+use flash_io::{Disk, DiskFault, Failed, read_file};
 use std::alloc::Global;
 
 /// The first gate of a root.
@@ -41,9 +41,9 @@ fn gate_of(root: &[u8]) -> Gate
     }
 }
 
-// Writes a closed gate at the front of a root of one byte at most.
+// Writes a closed gate at the front of a root without its first gate.
 fn shut<D: Disk>(disk: &mut D) -> Result<(), DiskFault>
-    requires short { D.tells → (root : List ℕ) × Holds (D.files disk.old) 0 root × (length root ≤ 1) }
+    requires short { D.tells → (root : List ℕ) × Holds (D.files disk.old) 0 root × LacksGate root }
     ensures durable { OnOk result (Durable 0 (0 ∷ []) (D.may_leave disk.new)) }
     ensures any_moment { LeavesOnly D.moment D.left_since disk.old disk.new (λ c. (d : Image) × D.may_leave disk.old d × Torn 0 0 1 d c) }
     ensures others { SameBut 0 (D.files disk.old) (D.files disk.new) }
@@ -78,6 +78,7 @@ fn mend<D: Disk>(disk: &mut D, root: &[u8]) -> Result<(), DiskFault>
     requires read { D.tells → Holds (D.files disk.old) 0 root.now }
     ensures steady { OnOk result (IsSteady 0 [] (D.may_leave disk.new)) }
     ensures any_moment { LeavesOnly D.moment D.left_since disk.old disk.new (MadeReady (D.files disk.old) (D.may_leave disk.old)) }
+    ensures unmade { IsUnmade (D.files disk.old) (D.may_leave disk.old) → IsUnmade (D.files disk.new) (D.may_leave disk.new) }
     ensures others { SameBut 0 (D.files disk.old) (D.files disk.new) }
     ensures counted { Counted D.fault_count D.reader_fault_count D.never_fails disk.old disk.new }
     ensures failed { IsErrOf result DiskFault.Failed → Rose (D.fault_count disk.old) (D.fault_count disk.new) }
@@ -93,6 +94,7 @@ fn ready_again<D: Disk>(alloc: Global, disk: &mut D) -> Result<(), DiskFault>
     requires there { D.tells → IsThere (D.files disk.old) 0 }
     ensures steady { OnOk result (IsSteady 0 [] (D.may_leave disk.new)) }
     ensures any_moment { LeavesOnly D.moment D.left_since disk.old disk.new (MadeReady (D.files disk.old) (D.may_leave disk.old)) }
+    ensures unmade { IsUnmade (D.files disk.old) (D.may_leave disk.old) → IsUnmade (D.files disk.new) (D.may_leave disk.new) }
     ensures others { SameBut 0 (D.files disk.old) (D.files disk.new) }
     ensures counted { Counted D.fault_count D.reader_fault_count D.never_fails disk.old disk.new }
     ensures failed { IsErrOf result DiskFault.Failed → Rose (D.fault_count disk.old) (D.fault_count disk.new) }
@@ -116,6 +118,7 @@ fn has_root<D: Disk>(alloc: Global, disk: &mut D) -> Result<bool, DiskFault>
 pub fn ready<D: Disk>(alloc: Global, disk: &mut D) -> Result<(), DiskFault>
     ensures steady { OnOk result (IsSteady 0 [] (D.may_leave disk.new)) }
     ensures any_moment { LeavesOnly D.moment D.left_since disk.old disk.new (MadeReady (D.files disk.old) (D.may_leave disk.old)) }
+    ensures unmade { IsUnmade (D.files disk.old) (D.may_leave disk.old) → IsUnmade (D.files disk.new) (D.may_leave disk.new) }
     ensures others { SameBut 0 (D.files disk.old) (D.files disk.new) }
     ensures counted { Counted D.fault_count D.reader_fault_count D.never_fails disk.old disk.new }
     ensures failed { IsErrOf result DiskFault.Failed → Rose (D.fault_count disk.old) (D.fault_count disk.new) }

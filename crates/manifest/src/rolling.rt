@@ -5,7 +5,7 @@ ghost use Rattle.flash_io.specs.Faults.{Rose};
 ghost use Rattle.manifest_form.specs.declared.recover.Recovered.{Recovered};
 ghost use Rattle.manifest_form.specs.Walk.{manifest_of};
 ghost use Rattle.manifest.specs.declared.store.Manifest.{Manifest};
-ghost use Rattle.manifest.specs.Runs.{Counted};
+ghost use Rattle.flash_io.specs.Runs.{Counted};
 ghost use Rattle.manifest.specs.Rolled.{raised, Rolls, IsNamedNext, OldOrRolled};
 ghost use Rattle.manifest.specs.Stores.{IsKept, has_of, has_with};
 

@@ -3,7 +3,7 @@ ghost use Rattle.std.specs.Prelude.{◌≡◌, ◌≤◌, OnOk, IsErrOf};
 ghost use Rattle.flash_io.specs.Image.{SameBut, Holds};
 ghost use Rattle.flash_io.specs.Crash.{Durable, Elsewhere, LeavesOnly, NoNew};
 ghost use Rattle.flash_io.specs.Faults.{Rose};
-ghost use Rattle.manifest.specs.Runs.{Counted};
+ghost use Rattle.flash_io.specs.Runs.{Counted};
 ghost use Rattle.manifest.specs.Stores.{IsKept};
 
 use crate::durable::stage;

@@ -3,7 +3,7 @@ ghost use Rattle.std.specs.Prelude.{◌≡◌, true, OnOk, OnErr};
 ghost use Rattle.flash_io.specs.Image.{IsThere};
 ghost use Rattle.flash_io.specs.Crash.{LeavesOnly, NoNew, SyncedTo};
 ghost use Rattle.flash_io.specs.Faults.{Rose};
-ghost use Rattle.manifest.specs.Runs.{Counted};
+ghost use Rattle.flash_io.specs.Runs.{Counted};
 ghost use Rattle.manifest.specs.Stores.{IsRead, IsKept};
 
 use crate::store::Manifest;

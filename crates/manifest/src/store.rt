@@ -1,5 +1,5 @@
 // The manifest of a store.
-ghost use Rattle.std.specs.Prelude.{◌≡◌, ◌<◌, true};
+ghost use Rattle.std.specs.Prelude.{◌≡◌, ◌<◌, ◌+◌, ◌^◌, true};
 ghost use Rattle.column_block.specs.Schemas.{IsSchema};
 ghost use Rattle.manifest_form.specs.States.{is_formed};
 ghost use Rattle.manifest_form.specs.Whole.{IdsDiffer, IdsDiffer-prop};
@@ -35,4 +35,7 @@ pub struct Manifest {
 
     // The root has a record.
     ghost named: { 0 < root_at },
+
+    // The closed gate stands within a file.
+    ghost within: { at + 1 < 2 ^ 64 },
 }

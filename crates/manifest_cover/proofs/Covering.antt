@@ -36,8 +36,7 @@ to_replica low (a ∷ b ∷ rest) (s ∷ []) same r = absurd (cc same)
 to_replica low (a ∷ b ∷ rest) (s ∷ t ∷ ss) same r =
     let one = first_same a.range s.range (b.range ∷ map (λ (x : StoredSegment). x.range) rest) (t.range ∷ map (λ (x : Segment). x.range) ss) same in
     let behind = rest_same a.range s.range (b.range ∷ map (λ (x : StoredSegment). x.range) rest) (t.range ∷ map (λ (x : Segment). x.range) ss) same in
-    let two : Some b.range.low ≡ Some t.range.low = ap (λ (r : HandleRange). Some r.low) (first_same b.range t.range (map (λ (x : StoredSegment). x.range) rest) (map (λ (x : Segment). x.range) ss) behind) in
-    (
+    let two : Some b.range.low ≡ Some t.range.low = ap (λ (r : HandleRange). Some r.low) (first_same b.range t.range (map (λ (x : StoredSegment). x.range) rest) (map (λ (x : Segment). x.range) ss) behind) in (
       ap (λ (r : HandleRange). r.low) (sym one) ∙ sym (some_same low a.range.low r.0),
       ap (λ (r : HandleRange). r.high) (sym one) ∙ r.2.0 ∙ two,
       sym (is_filled a.range s.range one) ∙ r.1,
@@ -56,8 +55,7 @@ from_replica low (a ∷ b ∷ rest) (s ∷ []) same c = absurd (cc same)
 from_replica low (a ∷ b ∷ rest) (s ∷ t ∷ ss) same c =
     let one = first_same a.range s.range (b.range ∷ map (λ (x : StoredSegment). x.range) rest) (t.range ∷ map (λ (x : Segment). x.range) ss) same in
     let behind = rest_same a.range s.range (b.range ∷ map (λ (x : StoredSegment). x.range) rest) (t.range ∷ map (λ (x : Segment). x.range) ss) same in
-    let next = from_replica t.range.low (b ∷ rest) (t ∷ ss) behind c.3 in
-    (
+    let next = from_replica t.range.low (b ∷ rest) (t ∷ ss) behind c.3 in (
       ap (λ z. Some z) (sym (ap (λ (r : HandleRange). r.low) one ∙ c.0)),
       is_filled a.range s.range one ∙ c.2,
       (ap (λ (r : HandleRange). r.high) one ∙ c.1 ∙ next.0, next.1, next.2),

@@ -3,7 +3,8 @@ use Rattle.std.proofs.Common.{◌≡◌, ℤ, true, List, [], ◌∷◌, ◌++�
 use Rattle.std.specs.Prelude.{int_lt, ◌&&◌}
 use Rattle.std.specs.Ordering.{int_eq}
 use Rattle.manifest_form.specs.declared.state.StoredSegment.{StoredSegment}
-use Rattle.manifest_form.specs.States.{has_any, cover_from}
+use Rattle.flash_types.specs.Ranges.{has_any}
+use Rattle.manifest_form.specs.States.{cover_from}
 use Rattle.manifest_laws.specs.Changes.{Runs}
 use Rattle.manifest_laws.proofs.Facts.{and_both, both_and, same_int, int_itself, through}
 use Rattle.manifest_laws.proofs.Placing.{Over, Rising, EachUnder}

@@ -6,7 +6,8 @@ use Rattle.flash_types.specs.declared.range.HandleRange.{HandleRange}
 use Rattle.manifest_form.specs.declared.state.StoredSegment.{StoredSegment}
 use Rattle.manifest_form.specs.declared.state.State.{State}
 use Rattle.manifest_form.specs.declared.state.Edit.TheVariants.{Next, Segment, Drop, High, SafePoint, Regions, Count}
-use Rattle.manifest_form.specs.States.{done, all_done, with_segments, has_any, segment_below, is_formed}
+use Rattle.flash_types.specs.Ranges.{has_any}
+use Rattle.manifest_form.specs.States.{done, all_done, with_segments, segment_below, is_formed}
 use Rattle.manifest_form.specs.Whole.{HasNone, IdsDiffer, with_next}
 use Rattle.manifest_form.proofs.Differ.{all_done_differ}
 use Rattle.manifest_laws.specs.Changes.{TakesOver, Renews}

@@ -6,7 +6,8 @@ use Rattle.manifest_form.specs.declared.state.StoredSegment.{StoredSegment}
 use Rattle.manifest_form.specs.declared.state.State.{State}
 use Rattle.manifest_form.specs.declared.state.Edit.{Edit}
 use Rattle.manifest_form.specs.declared.state.Edit.TheVariants.{Next, Segment, Drop, High, SafePoint, Regions, Count}
-use Rattle.manifest_form.specs.States.{placed, without, done, all_done, cover_from, name_below, file_below, segment_below, all_below, least_handle, is_formed}
+use Rattle.flash_types.specs.Ranges.{least_handle}
+use Rattle.manifest_form.specs.States.{placed, without, done, all_done, cover_from, name_below, file_below, segment_below, all_below, is_formed}
 use Rattle.manifest_form.specs.Whole.{HasNone, IdsDiffer}
 use Rattle.manifest_form.proofs.Differ.{all_done_differ}
 use Rattle.manifest_laws.specs.Changes.{put_by, ids_of, IsOther, PutOnce, TouchNone, HasId, EachFree, EachGoes, EachBelow, Runs, TakesOver}

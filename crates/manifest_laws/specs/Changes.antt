@@ -3,7 +3,8 @@ use Rattle.std.specs.Prelude.{◌≡◌, ◌≢◌, ◌⊎◌, ℕ, ◌<◌, ℤ
 use Rattle.manifest_form.specs.declared.state.StoredSegment.{StoredSegment}
 use Rattle.manifest_form.specs.declared.state.Edit.{Edit}
 use Rattle.manifest_form.specs.declared.state.Edit.TheVariants.{Segment, Drop, Regions}
-use Rattle.manifest_form.specs.States.{placed, has_any, segment_below}
+use Rattle.flash_types.specs.Ranges.{has_any}
+use Rattle.manifest_form.specs.States.{placed, segment_below}
 use Rattle.manifest_form.specs.Whole.{HasNone}
 
 -- ---- what edits put and drop

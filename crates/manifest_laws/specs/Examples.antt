@@ -4,7 +4,8 @@ use Rattle.std.proofs.Common.{refl}
 use Rattle.manifest_form.specs.declared.state.StoredSegment.{StoredSegment}
 use Rattle.manifest_form.specs.declared.state.State.{State}
 use Rattle.manifest_form.specs.declared.state.Edit.TheVariants.{Next, Segment, Drop}
-use Rattle.manifest_form.specs.States.{all_done, is_formed, least_handle}
+use Rattle.flash_types.specs.Ranges.{least_handle}
+use Rattle.manifest_form.specs.States.{all_done, is_formed}
 
 abbrev part : ℕ → ℤ → Option ℤ → StoredSegment
 part id low high = record { id = id; range = record { low = low; high = high }; stable = None; delta = [] }

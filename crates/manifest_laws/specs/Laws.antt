@@ -7,7 +7,8 @@ use Rattle.manifest_form.specs.declared.state.State.{State}
 use Rattle.manifest_form.specs.declared.state.Edit.{Edit}
 use Rattle.manifest_form.specs.declared.state.Edit.TheVariants as edit
 use Rattle.manifest_form.specs.declared.state.Edit.TheVariants.{Next, High, SafePoint, Regions, Count}
-use Rattle.manifest_form.specs.States.{all_done, with_segments, has_any, segment_below, is_formed}
+use Rattle.flash_types.specs.Ranges.{has_any}
+use Rattle.manifest_form.specs.States.{all_done, with_segments, segment_below, is_formed}
 use Rattle.manifest_form.specs.Whole.{IdsDiffer, with_next}
 use Rattle.manifest_laws.specs.Changes.{put_by, ids_of, PutOnce, EachFree, EachGoes, TakesOver, put_among}
 

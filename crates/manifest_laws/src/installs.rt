@@ -51,7 +51,7 @@ pub fn segments_split()
         → lower.id ≡ old.id
         → HasNone upper.id s.segments
         → Gives file next s before (lower ∷ upper ∷ []) after
-            (Next next ∷ Segment lower ∷ Segment upper ∷ []) }
+        (Next next ∷ Segment lower ∷ Segment upper ∷ []) }
     ensures upper_keeps { (file : ℕ) (s : State) (before after : List StoredSegment)
         (old lower upper : StoredSegment)
         → HasRun file s before (old ∷ []) after
@@ -61,7 +61,7 @@ pub fn segments_split()
         → HasNone lower.id s.segments
         → upper.id ≡ old.id
         → Gives file next s before (lower ∷ upper ∷ []) after
-            (Next next ∷ Segment lower ∷ Segment upper ∷ []) }
+        (Next next ∷ Segment lower ∷ Segment upper ∷ []) }
     ensures dropped_last { (file : ℕ) (s : State) (before after : List StoredSegment)
         (old lower upper : StoredSegment)
         → HasRun file s before (old ∷ []) after
@@ -72,7 +72,7 @@ pub fn segments_split()
         → HasNone upper.id s.segments
         → lower.id ≢ upper.id
         → Gives file next s before (lower ∷ upper ∷ []) after
-            (Next next ∷ Segment lower ∷ Segment upper ∷ Drop old.id ∷ []) }
+        (Next next ∷ Segment lower ∷ Segment upper ∷ Drop old.id ∷ []) }
     ensures dropped_first { (file : ℕ) (s : State) (before after : List StoredSegment)
         (old lower upper : StoredSegment)
         → HasRun file s before (old ∷ []) after
@@ -83,7 +83,7 @@ pub fn segments_split()
         → HasNone upper.id s.segments
         → lower.id ≢ upper.id
         → Gives file next s before (lower ∷ upper ∷ []) after
-            (Next next ∷ Drop old.id ∷ Segment lower ∷ Segment upper ∷ []) }
+        (Next next ∷ Drop old.id ∷ Segment lower ∷ Segment upper ∷ []) }
 {}
 
 /// A segment with the joined range of two takes their place: it has the id of one, or both are
@@ -116,7 +116,7 @@ pub fn segments_merge()
         → s.next ≤ next
         → HasNone both.id s.segments
         → Gives file next s before (both ∷ []) after
-            (Next next ∷ Drop left.id ∷ Drop right.id ∷ Segment both ∷ []) }
+        (Next next ∷ Drop left.id ∷ Drop right.id ∷ Segment both ∷ []) }
 {}
 
 /// Segments change in their places, with their ids and ranges, and those that did are put.

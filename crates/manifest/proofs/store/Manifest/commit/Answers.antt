@@ -49,12 +49,14 @@ invariant_of-self-in-Ok g c =
     let m = c.args.self.now in
     let edits = c.args.edits.now in
     let state = done_state c.args.self.now.state c.make_ready.new.state c.do_all.new.state c.in_ok-ready.ready c.in_ok-copies.copies.items c.args.edits.now c.do_all.ensures.done c.in_ok-ready.ensures.taken c.in_ok-ready.ensures.ready c.in_ok-copies.ensures in
+    let len : c.len.result ≡ length c.as_slice.result.now = search rules in
     record {
       apart = m.apart;
       formed = rw state c.requires.formed;
       lawful = m.lawful;
       differ = rw state (all_done_differ m.state edits m.differ);
       named = m.named;
+      within = omega (arith, len, c.in-Ok.ensures.room);
     }
 
 pub returns-in-Ok-clause-done : goal.returns-in-Ok-clause-done
