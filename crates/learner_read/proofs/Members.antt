@@ -10,7 +10,7 @@ use Rattle.std.proofs.lemmas.Int.{ints}
 use Rattle.std.proofs.lemmas.List.Elements.{All-head, All-tail}
 use Rattle.column_block.specs.declared.cell.Version.{Version}
 use Rattle.good_replica.specs.Changed.{had}
-use Rattle.version_gc.specs.Keep.{version_cmp, Rise}
+use Rattle.column_block.specs.Order.{version_cmp, Rise}
 use Rattle.good_replica.specs.Trail.{after_versions, versions_on}
 use Rattle.good_replica.proofs.Commits.{pairs_first, pairs_rest}
 use Rattle.good_replica.proofs.Facts.{int_same, int_itself}

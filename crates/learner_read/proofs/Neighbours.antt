@@ -8,7 +8,7 @@ use Rattle.std.specs.declared.cmp.Ordering.TheVariants.{Less, Equal, Greater}
 use Rattle.std.proofs.lemmas.Int.{ints}
 use Rattle.std.proofs.lemmas.Option.{get_or_from_slice_get, slice_get-map, slice_get_within}
 use Rattle.column_block.specs.declared.cell.Version.{Version}
-use Rattle.version_gc.specs.Keep.{Rise}
+use Rattle.column_block.specs.Order.{Rise}
 use Rattle.learner_read.specs.Rows.{is_newer, is_shown}
 use Rattle.learner_read.proofs.Members.{In, IsBefore, any_in, in_get, before_later}
 use Rattle.learner_read.proofs.Newest.{is_top, newer, is_newer_at}

@@ -9,7 +9,7 @@ use Rattle.std.proofs.lemmas.Int.{ints}
 use Rattle.std.proofs.lemmas.List.Kept.{AllPairs-filter}
 use Rattle.column_block.specs.declared.cell.Version.{Version}
 use Rattle.good_replica.specs.Changed.{had}
-use Rattle.version_gc.specs.Keep.{Rise}
+use Rattle.column_block.specs.Order.{Rise}
 use Rattle.good_replica.specs.Shows.{Shows, IsNewestAt}
 use Rattle.good_replica.specs.Versions.{Versions}
 use Rattle.good_replica.proofs.Facts.{int_same, int_itself, le_or}

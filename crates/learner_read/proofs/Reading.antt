@@ -14,7 +14,7 @@ use Rattle.good_replica.specs.Changed.{view}
 use Rattle.good_replica.specs.Shows.{Shows}
 use Rattle.good_replica.specs.Versions.{Versions}
 use Rattle.good_replica.proofs.Facts.{int_same}
-use Rattle.version_gc.specs.Keep.{Rise}
+use Rattle.column_block.specs.Order.{Rise}
 use Rattle.delta_layer.specs.Files.{files_of}
 use Rattle.delta_layer.specs.Present.{IsPresent}
 use Rattle.delta_layer.specs.declared.view.SegmentView.{SegmentView}

@@ -2,7 +2,7 @@
 ghost use Rattle.std.specs.Prelude.{◌≡◌, ℕ, ℤ, ◌<ℤ◌, AllPairs, List};
 ghost use Rattle.column_block.specs.declared.cell.Version.{Version};
 ghost use Rattle.good_replica.specs.Changed.{had};
-ghost use Rattle.version_gc.specs.Keep.{Rise};
+ghost use Rattle.column_block.specs.Order.{Rise};
 ghost use Rattle.good_replica.specs.Shows.{Shows};
 ghost use Rattle.learner_read.specs.Rows.{cells_on, shown_rows};
 

@@ -2,7 +2,7 @@
 ghost use Rattle.std.specs.Prelude.{◌≡◌, ◌&&◌, ◌<◌, length, map, slice_get, Some, IfOk};
 ghost use Rattle.std.specs.List.{list_any};
 ghost use Rattle.flash_types.specs.Ranges.{holds};
-ghost use Rattle.version_gc.specs.Keep.{Rise};
+ghost use Rattle.column_block.specs.Order.{Rise};
 ghost use Rattle.learner_read.specs.Rows.{is_asked, is_shown, rows_within, shown_rows};
 
 use column_block::{Block, Memory};

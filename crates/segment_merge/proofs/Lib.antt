@@ -1,1 +1,2 @@
 mod Seam
+mod Suited

@@ -10,7 +10,7 @@ use Rattle.column_block.specs.declared.cell.Version.{Version}
 use Rattle.column_block.specs.declared.column.Column.{Column}
 use Rattle.flash_types.specs.Ranges.{holds, is_below}
 use Rattle.flash_types.specs.declared.range.HandleRange.{HandleRange}
-use Rattle.version_gc.specs.Keep.{Rise}
+use Rattle.column_block.specs.Order.{Rise}
 use Rattle.version_gc.proofs.Collections.{Pair, first_of, rest_of}
 use Rattle.delta_layer.specs.Built.{IsOne, IsSegment}
 use Rattle.delta_layer.specs.Pieces.{IsStablePiece}

@@ -2,6 +2,8 @@
 //! alone, and changes nothing.
 #![tactic(auto)]
 
+mod laws;
+
 ghost use Rattle.std.specs.Prelude.{◌≡◌, ◌<◌, ◌++◌, ◌∷◌, [], IfOk};
 ghost use Rattle.delta_layer.specs.Built.{HasBuildCause, NeverOneHandle};
 ghost use Rattle.delta_layer.specs.declared.built.Job.TheVariants.{Merge};
@@ -14,6 +16,7 @@ use delta_layer::{
 use flash_io::Reader;
 use flash_list::Items;
 use flash_types::HandleRange;
+pub use laws::merges_are_read_again;
 use std::alloc::Global;
 
 /// Builds the merge of a segment with the next one, whose range begins where this one's ends: one
