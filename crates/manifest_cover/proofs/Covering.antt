@@ -1,6 +1,5 @@
 -- The cover of a state's segments, and that of a replica's with the same ranges.
-use Rattle.std.proofs.Common.{◌≡◌, ℕ, ℤ, true, List, [], ◌∷◌, map, Option, Some, None, refl, sym, ap, ◌∙◌}
-use Rattle.std.specs.Prelude.{int_lt}
+use Rattle.std.proofs.Common.{◌≡◌, ℕ, ℤ, true, List, [], ◌∷◌, map, Some, None, sym, ap, ◌∙◌}
 use Rattle.flash_types.specs.Ranges.{is_below, has_any, least_handle}
 use Rattle.flash_types.specs.declared.range.HandleRange.{HandleRange}
 use Rattle.manifest_form.specs.declared.state.StoredSegment.{StoredSegment}
