@@ -1,5 +1,5 @@
 -- A table is that of a log exactly where the entries that it says are applied leave what it has, applied anew in the order of the log.
-use Rattle.std.proofs.Common.{◌≡◌, ◌≢◌, ◌⊎◌, inl, inr, ◌∙◌, refl, sym, ap, ℕ, ◌+◌, ◌<◌, ◌≤◌, Bool, true, false, ◌&&◌, ◌||◌, Option, Some, None, nat_lt, arith, slice_get, length, List}
+use Rattle.std.proofs.Common.{◌≡◌, ◌≢◌, ◌⊎◌, inl, inr, ◌∙◌, refl, sym, ap, ℕ, ◌+◌, ◌<◌, ◌≤◌, Bool, true, false, ◌&&◌, ◌||◌, Option, Some, None, nat_lt, is_some, true≢false, arith, slice_get, length, List}
 use Rattle.std.specs.Prelude.{◌==◌}
 use Rattle.std.specs.Cmp.{nat_cmp_total}
 use Rattle.std.specs.List.Sorted.{IsStrictlySortedBy}
@@ -16,12 +16,12 @@ use Rattle.committed_log.proofs.Closed.{entry_at}
 use Rattle.committed_log.proofs.Ready.{is_ready_by}
 use Rattle.raft_apply.specs.Entries.{command_of, parsed}
 use Rattle.raft_apply.specs.declared.command.Parsed.{Parsed}
-use Rattle.region_file.specs.declared.entry.Entry.{Entry as Kept}
 use Rattle.region_state.proofs.Folds.{same_lists}
 use Rattle.region_table.specs.Agreeing.{below}
 use Rattle.region_table.specs.Applying.{apply_fault}
 use Rattle.region_table.specs.Counting.{applied_in, has_reached}
-use Rattle.region_table.specs.Table.{Table, IsTableAt, state_in}
+use Rattle.region_table.specs.Table.{Kept, AreRegionsAt, AreNexts, IsCounted, next_in, state_in}
+use Rattle.region_table.specs.declared.table.Counted.{Counted}
 use Rattle.region_table.specs.declared.fault.ApplyError.{ApplyError}
 use Rattle.region_table.proofs.Behind.{without_ready}
 
@@ -114,6 +114,22 @@ position_is log p x is = by (slice_get log.entries p) is
 pub none_past : (log : Log) (regions : List (ℕ × Kept)) (q : ℕ) → length log.entries ≤ q → applied_in log regions q ≡ false
 none_past log regions q le = ap (λ o. elim o [ None ↦ false | Some e ↦ has_reached (index_of (state_in regions e.region)) e.index ]) (slice_get_past log.entries q le)
 
--- two tables at one set have the same regions
-pub same_regions : (log : Log) (A : ℕ → Bool) (a b : Table) → IsTableAt log A a → IsTableAt log A b → IsStrictlySortedBy nat_cmp (keys_of a.regions) → IsStrictlySortedBy nat_cmp (keys_of b.regions) → a.regions ≡ b.regions
-same_regions log A a b at_a at_b rise_a rise_b = same_lists nat_cmp_total exact_unsigned a.regions b.regions rise_a rise_b (λ r. at_a.regions r ∙ sym (at_b.regions r))
+-- at one set there are the same regions
+pub same_regions : (log : Log) (A : ℕ → Bool) (a b : List (ℕ × Kept)) → AreRegionsAt log A a → AreRegionsAt log A b → IsStrictlySortedBy nat_cmp (keys_of a) → IsStrictlySortedBy nat_cmp (keys_of b) → a ≡ b
+same_regions log A a b at_a at_b rise_a rise_b = same_lists nat_cmp_total exact_unsigned a b rise_a rise_b (λ r. at_a.regions r ∙ sym (at_b.regions r))
+
+-- and the same next entries
+pub same_nexts : (log : Log) (A : ℕ → Bool) (a b : List (ℕ × Unit {0})) → AreNexts log A a → AreNexts log A b → IsStrictlySortedBy nat_cmp (keys_of a) → IsStrictlySortedBy nat_cmp (keys_of b) → a ≡ b
+same_nexts log A a b at_a at_b rise_a rise_b = same_lists nat_cmp_total exact_unsigned a b rise_a rise_b (λ q. alike (next_in a q) (next_in b q) (among a b at_a at_b q) (among b a at_b at_a q))
+  where
+    among : (a b : List (ℕ × Unit {0})) → AreNexts log A a → AreNexts log A b → (q : ℕ) → is_some (next_in a q) ≡ true → is_some (next_in b q) ≡ true
+    among a b at_a at_b q some = let r = at_a.each q some in at_b.all q r.0 r.1 r.2
+
+    alike : (x y : Option (Unit {0})) → (is_some x ≡ true → is_some y ≡ true) → (is_some y ≡ true → is_some x ≡ true) → x ≡ y
+    alike None None there back = refl
+    alike None (Some y) there back = absurd (true≢false (sym (back refl)))
+    alike (Some x) None there back = absurd (true≢false (sym (there refl)))
+    alike (Some x) (Some y) there back = refl
+
+pub same_counts : (log : Log) (A : ℕ → Bool) (a b : Counted) → IsCounted log A a → IsCounted log A b → a ≡ b
+same_counts log A a b at_a at_b = λ i. record { count = (at_a.count ∙ sym at_b.count) i; first = (at_a.first ∙ sym at_b.first) i }

@@ -1,5 +1,5 @@
 -- At a closed set of applied entries no two regions that are there have a handle in common, and so no two that a table has there.
-use Rattle.std.proofs.Common.{◌≡◌, ◌≢◌, ◌⊎◌, inl, inr, ◌∙◌, refl, sym, ap, subst, ℕ, suc, ◌<◌, ◌≤◌, ℤ, Bool, true, false, true≢false, cond, ◌&&◌, Option, Some, None, is_some, int_le, length, arith}
+use Rattle.std.proofs.Common.{◌≡◌, ◌≢◌, ◌⊎◌, inl, inr, ◌∙◌, refl, sym, ap, subst, ℕ, suc, ◌<◌, ◌≤◌, ℤ, Bool, true, false, true≢false, cond, ◌&&◌, Option, Some, None, List, is_some, int_le, length, arith}
 use Rattle.flash_types.specs.Ranges.{holds}
 use Rattle.flash_types.specs.declared.range.HandleRange.{HandleRange}
 use Rattle.committed_log.specs.Admission.{least_common}
@@ -17,7 +17,7 @@ use Rattle.good_replica.specs.Front.{front}
 use Rattle.good_replica.proofs.Facts.{and_true}
 use Rattle.good_replica.proofs.Reading.{owner_front}
 use Rattle.region_state.specs.State.{State}
-use Rattle.region_table.specs.Table.{Table, IsTableAt, kept_in, state_there, state_kept}
+use Rattle.region_table.specs.Table.{Kept, AreRegionsAt, kept_in, state_there, state_kept}
 use Rattle.region_file.specs.declared.entry.Entry.TheVariants as kept
 use Rattle.region_table.proofs.Sets.{state_is}
 
@@ -87,9 +87,9 @@ range_there s = by s.target
     by None = refl
     by (Some target) = refl
 
-range_kept : (log : Log) (A : ℕ → Bool) (t : Table) → IsTableAt log A t → (r : ℕ) (s : State) → kept_in t.regions r ≡ Some (kept.There s) → range_of (applied log A r) ≡ Some s.descriptor.range
-range_kept log A t is r s there = ap range_of (sym (state_is log A t is r)) ∙ ap (λ k. range_of (state_kept k)) there ∙ range_there s
+range_kept : (log : Log) (A : ℕ → Bool) (regions : List (ℕ × Kept)) → AreRegionsAt log A regions → (r : ℕ) (s : State) → kept_in regions r ≡ Some (kept.There s) → range_of (applied log A r) ≡ Some s.descriptor.range
+range_kept log A regions is r s there = ap range_of (sym (state_is log A regions is r)) ∙ ap (λ k. range_of (state_kept k)) there ∙ range_there s
 
 -- the ranges of two regions that a table has there have no handle in common
-pub tables_apart : (log : Log) → IsLawful log → (A : ℕ → Bool) (t : Table) → IsTableAt log A t → (r q : ℕ) → r ≢ q → (s s' : State) → kept_in t.regions r ≡ Some (kept.There s) → kept_in t.regions q ≡ Some (kept.There s') → is_some (least_common s.descriptor.range s'.descriptor.range) ≡ false
-tables_apart log lawful A t is r q apart s s' there other = apart_at log lawful A is.closed r q apart s.descriptor.range s'.descriptor.range (range_kept log A t is r s there) (range_kept log A t is q s' other)
+pub tables_apart : (log : Log) → IsLawful log → (A : ℕ → Bool) (regions : List (ℕ × Kept)) → AreRegionsAt log A regions → (r q : ℕ) → r ≢ q → (s s' : State) → kept_in regions r ≡ Some (kept.There s) → kept_in regions q ≡ Some (kept.There s') → is_some (least_common s.descriptor.range s'.descriptor.range) ≡ false
+tables_apart log lawful A regions is r q apart s s' there other = apart_at log lawful A is.closed r q apart s.descriptor.range s'.descriptor.range (range_kept log A regions is r s there) (range_kept log A regions is q s' other)

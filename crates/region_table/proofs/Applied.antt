@@ -52,7 +52,7 @@ module _ (log : Log) (lawful : IsLawful log) (A : ℕ → Bool) (closed : IsClos
   own_acts : is_acted e.region e.body e.region ≡ true
   own_acts = or_first (e.region == e.region) (list_any (λ acted. acted == e.region) (also_acted e.body)) (same_is e.region)
 
-  own : (st : Region) → region (at log p).regions e.region ≡ st → f e.region ≡ kept_from (at log p) st
+  pub own : (st : Region) → region (at log p).regions e.region ≡ st → f e.region ≡ kept_from (at log p) st
   own st is = before e.region own_acts ∙ ap (kept_from (at log p)) is
 
   rises : (d : Descriptor) (r : ℕ) → AreBelow (2 ^ 63) (2 ^ 62 + p) (Live d) → CanRise d.epoch

@@ -17,10 +17,9 @@ use Rattle.committed_log.proofs.Local.{same_itself, same_then, same_within}
 use Rattle.committed_log.proofs.Places.{place_left, place_is_last}
 use Rattle.committed_log.proofs.Positions.{IsGreatest}
 use Rattle.committed_log.proofs.Ready.{applied_before, applied_after, applied_other}
-use Rattle.region_file.specs.declared.entry.Entry.{Entry as Kept}
 use Rattle.region_file.specs.declared.entry.Entry.TheVariants as kept
 use Rattle.region_state.specs.State.{State, values_in, locks_in}
-use Rattle.region_table.specs.Table.{kept_at, there_at, values_at}
+use Rattle.region_table.specs.Table.{Kept, kept_at, there_at, values_at}
 
 -- ---- what a store has of a region
 

@@ -1,5 +1,5 @@
 -- What a table tells of an entry that can't be applied is what its set tells; and an entry has no such fault exactly where it is ready.
-use Rattle.std.proofs.Common.{◌≡◌, ◌⊎◌, inl, inr, ◌∙◌, refl, sym, ap, ℕ, suc, ◌-◌, ◌<◌, ◌≤◌, Bool, true, false, true≢false, cond, not, ◌&&◌, ◌||◌, Option, Some, None, nat_lt, arith, slice_get, length, unwrap_or, find, is_none}
+use Rattle.std.proofs.Common.{◌≡◌, ◌⊎◌, inl, inr, ◌∙◌, refl, sym, ap, ℕ, suc, ◌-◌, ◌<◌, ◌≤◌, Bool, true, false, true≢false, cond, not, ◌&&◌, ◌||◌, Option, Some, None, nat_lt, arith, slice_get, length, unwrap_or, find, is_none, List}
 use Rattle.std.specs.Prelude.{◌==◌}
 use Rattle.std.specs.List.{list_all, list_any}
 use Rattle.std.specs.Option.{option_or}
@@ -28,7 +28,7 @@ use Rattle.committed_log.proofs.Waiting.{prepared_then_gone, ready_by_regions}
 use Rattle.region_table.specs.Applying.{fault_by, apply_fault, source_behind, behind, prepare_index}
 use Rattle.region_table.specs.Counting.{applied_in}
 use Rattle.region_table.specs.Faults.{prepare_at_end}
-use Rattle.region_table.specs.Table.{Table, IsTableAt, IsCounted, state_in, first_out}
+use Rattle.region_table.specs.Table.{Kept, AreRegionsAt, IsCounted, state_in, first_out}
 use Rattle.region_table.specs.declared.fault.ApplyError.{ApplyError}
 use Rattle.region_table.specs.declared.fault.ApplyError.TheVariants as fault
 use Rattle.committed_log.proofs.Ready.{ready_parts}
@@ -72,9 +72,9 @@ prepare_is log lawful p e here = by e.body refl
     by (body.Write ops) is = refl
     by body.Empty is = refl
 
-pub found : (log : Log) → IsLawful log → (A : ℕ → Bool) (t : Table) → IsTableAt log A t → (p : ℕ) (e : Entry) → slice_get log.entries p ≡ Some e → (c : Counted) → IsCounted log A c →
-    fault_by log (state_in t.regions) (applied_in log t.regions p) c.first (prepare_at_end log e.body) p e ≡ apply_fault log A p e
-found log lawful A t is p e here c counted = λ i. fault_by log (states_are log A t is i) (sym (tells log lawful A t is p) i) (counted.first i) (prepare_is log lawful p e here i) p e
+pub found : (log : Log) → IsLawful log → (A : ℕ → Bool) (regions : List (ℕ × Kept)) → AreRegionsAt log A regions → (p : ℕ) (e : Entry) → slice_get log.entries p ≡ Some e → (c : Counted) → IsCounted log A c →
+    fault_by log (state_in regions) (applied_in log regions p) c.first (prepare_at_end log e.body) p e ≡ apply_fault log A p e
+found log lawful A regions is p e here c counted = λ i. fault_by log (states_are log A regions is i) (sym (tells log lawful A regions is p) i) (counted.first i) (prepare_is log lawful p e here i) p e
 
 -- ---- exactly where
 

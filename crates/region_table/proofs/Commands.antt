@@ -23,14 +23,15 @@ use Rattle.committed_log.proofs.Owners.{tested, split_within, merge_touches}
 use Rattle.committed_log.proofs.Ranks.{same_number, region_here, region_there, of_live, of_unborn, no_entry}
 use Rattle.committed_log.proofs.Within.{filter-filter}
 use Rattle.raft_apply.specs.Entries.{command_of, changes}
-use Rattle.region_file.specs.declared.entry.Entry.{Entry as Kept}
 use Rattle.region_file.specs.declared.entry.Entry.TheVariants as kept
 use Rattle.region_state.specs.Folding.{folded}
 use Rattle.region_state.specs.State.{State, values_in, locks_in, lower_of, upper_of, absorbed}
 use Rattle.region_table.specs.Steps.{Keeps, changed, if_there, kept_after}
 use Rattle.region_table.proofs.Around.{state_from, kept_from, kept_of}
-use Rattle.region_table.proofs.Families.{written, installed, bare_range, joined_values, joined_locks}
+use Rattle.region_table.proofs.Families.{written, installed, bare_range}
+use Rattle.region_steps.proofs.Merging.{joined_values, joined_locks}
 use Rattle.region_table.proofs.Locals.{changed_here, changed_apart, is_acted}
+use Rattle.region_table.specs.Table.{Kept}
 
 module _ (log : Log) (lawful : IsLawful log) (p : ℕ) (e : Entry) (here : slice_get log.entries p ≡ Some e) where
   s : Store
@@ -194,7 +195,7 @@ module _ (log : Log) (lawful : IsLawful log) (p : ℕ) (e : Entry) (here : slice
       with_both q = with_own (λ x. if_there (G source) (λ o. merges x o) G) q ∙ ap (λ o. if_there o (merges (state_from (at log p) d None)) G q) source_own
 
       absorbed_is : absorbed (state_from (at log p) d None) other e.index ≡ state_from (at log p) (merged d source_is.0 e.index) None
-      absorbed_is = λ i. record { descriptor = merged d source_is.0 e.index; target = None; values = joined_values log lawful p e.region source d source_is.0 source_is.1.0 live source_is.1.1 source_apart source_touches i; locks = joined_locks log lawful p e.region source d source_is.0 source_is.1.0 live source_is.1.1 source_apart source_touches i }
+      absorbed_is = λ i. record { descriptor = merged d source_is.0 e.index; target = None; values = joined_values log lawful p e.region source d source_is.0 source_is.1.0 live source_is.1.1 source_touches i; locks = joined_locks log lawful p e.region source d source_is.0 source_is.1.0 live source_is.1.1 source_touches i }
 
       abbrev with_merged : List (ℕ × Region)
       with_merged = with_region e.region (Live (merged d source_is.0 e.index)) (at log p).regions

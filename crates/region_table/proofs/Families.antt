@@ -1,38 +1,30 @@
--- The families of regions that are born, written, installed and merged.
+-- The families of regions that are born, written and installed.
 use Rattle.std.proofs.Common.{◌≡◌, ◌≢◌, refl, sym, ap, subst, ℕ, suc, ℤ, Bool, true, false, ◌||◌, List, [], Option, Some, None, slice_get}
-use Rattle.std.specs.Ordering.{int_cmp}
-use Rattle.flash_types.specs.Ranges.{holds, is_below}
+use Rattle.flash_types.specs.Ranges.{holds}
 use Rattle.flash_types.specs.declared.range.HandleRange.{HandleRange}
 use Rattle.log_codec.specs.declared.entry.Body.TheVariants as body
 use Rattle.log_codec.specs.declared.entry.Entry.{Entry}
 use Rattle.log_codec.specs.declared.entry.Op.{Op}
 use Rattle.committed_log.specs.declared.region.Descriptor.{Descriptor}
 use Rattle.committed_log.specs.declared.region.Region.TheVariants.{Unborn, Live, Prepared, Gone}
-use Rattle.committed_log.specs.Admission.{birth_fault, touch}
+use Rattle.committed_log.specs.Admission.{birth_fault}
 use Rattle.committed_log.specs.Lawful.{IsLawful}
 use Rattle.committed_log.specs.Log.{Log, at}
-use Rattle.committed_log.specs.Regions.{region, joined}
-use Rattle.committed_log.specs.Store.{Store, value_cmp}
+use Rattle.committed_log.specs.Regions.{region}
+use Rattle.committed_log.specs.Store.{Store}
 use Rattle.raft_apply.specs.Entries.{changes}
 use Rattle.std.specs.List.{list_all}
 use Rattle.region_file.specs.declared.entry.Entry.TheVariants as kept
 use Rattle.region_state.specs.Folding.{folded, lies_in, versions_of}
 use Rattle.good_replica.specs.Effect.{added}
-use Rattle.region_state.specs.State.{State, values_in, locks_in, born, united}
-use Rattle.std.specs.Cmp.{int_cmp_total}
-use Rattle.std.proofs.lemmas.Map.Lookups.{exact_signed}
-use Rattle.committed_log.specs.Owned.{IsFilled}
+use Rattle.region_state.specs.State.{State, values_in, locks_in, born}
 use Rattle.committed_log.specs.declared.store.Lock.{Lock}
-use Rattle.committed_log.proofs.FamilySteps.{value_exact}
-use Rattle.committed_log.proofs.Filled.{filled_at, joined_covers}
 use Rattle.committed_log.proofs.Lying.{bare_born, lies_at}
-use Rattle.committed_log.proofs.Merged.{joined_holds}
-use Rattle.committed_log.proofs.Sorted.{sorted_at, value_cmp_total}
 use Rattle.region_table.proofs.Around.{state_from, kept_from, kept_of}
 use Rattle.committed_log.specs.declared.region.Region.{Region}
 use Rattle.region_steps.specs.Steps.{IsFold, part_of, region_in}
 use Rattle.region_steps.proofs.Folding.{write_is_fold, install_is_fold}
-use Rattle.region_table.proofs.Unions.{none_in, united_parts}
+use Rattle.region_steps.proofs.Unions.{none_in}
 
 -- a region that a store has is kept
 kept_has : (s : Store) (r : Region) (t : State) → region_in s r ≡ Some t → kept_from s r ≡ Some (kept.There t)
@@ -65,25 +57,3 @@ module _ (log : Log) (lawful : IsLawful log) (p : ℕ) where
         let range : HandleRange = record { low = low; high = high } in
         let fold : IsFold log p e (born range (record { conf_ver = conf_ver; version = version }) e.index) (changes log p ops) = install_is_fold log lawful p e here conf_ver version low high ops is in
         (fold.within, kept_has (at log (suc p)) (region (at log (suc p)).regions e.region) _ fold.state, fold.versions)
-
-  module _ (r source : ℕ) (d c : Descriptor) (target : ℕ) (live : region (at log p).regions r ≡ Live d) (prepared : region (at log p).regions source ≡ Prepared c target) (apart : source ≢ r) (touches : touch d.range c.range ≡ true) where
-    -- a handle lies in the range of both where it lies in one of them
-    joined_is : (h : ℤ) → (holds d.range h || holds c.range h) ≡ holds (joined d.range c.range) h
-    joined_is h = by (holds d.range h || holds c.range h) (holds (joined d.range c.range) h) (joined_covers d.range c.range touches filled source_filled h) (joined_holds d.range c.range h touches)
-      where
-        filled : is_below d.range.low d.range.high ≡ true
-        filled = subst IsFilled live (filled_at log lawful p r)
-
-        source_filled : is_below c.range.low c.range.high ≡ true
-        source_filled = subst IsFilled prepared (filled_at log lawful p source)
-
-        by : (a b : Bool) → (a ≡ true → b ≡ true) → (b ≡ true → a ≡ true) → a ≡ b
-        by true b f g = sym (f refl)
-        by false true f g = g refl
-        by false false f g = refl
-
-    pub joined_values : united value_cmp (values_in d.range (at log p).values) (values_in c.range (at log p).values) ≡ values_in (joined d.range c.range) (at log p).values
-    joined_values = united_parts value_cmp_total value_exact (λ k. holds d.range k.0) (λ k. holds c.range k.0) (λ k. holds (joined d.range c.range) k.0) (λ k. joined_is k.0) (at log p).values (sorted_at log p).values
-
-    pub joined_locks : united int_cmp (locks_in d.range (at log p).locks) (locks_in c.range (at log p).locks) ≡ locks_in (joined d.range c.range) (at log p).locks
-    joined_locks = united_parts int_cmp_total exact_signed (holds d.range) (holds c.range) (holds (joined d.range c.range)) joined_is (at log p).locks (sorted_at log p).locks

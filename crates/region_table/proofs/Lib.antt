@@ -1,3 +1,4 @@
+pub mod Ordered
 pub mod Sets
 pub mod Judged
 pub mod Numbers
@@ -5,7 +6,6 @@ pub mod Behind
 pub mod Parting
 pub mod Around
 pub mod Locals
-pub mod Unions
 pub mod Families
 pub mod Commands
 pub mod Applied
@@ -18,3 +18,8 @@ pub mod Alike
 pub mod Agreeing
 pub mod Apart
 pub mod TableAgain
+pub mod Causes
+pub mod Following
+pub mod Least
+pub mod Early
+pub mod Points

@@ -11,10 +11,10 @@ use Rattle.committed_log.specs.Regions.{also_acted}
 use Rattle.committed_log.proofs.Faults.{or_first, or_second, or_false}
 use Rattle.committed_log.proofs.Closed.{same_is}
 use Rattle.raft_apply.specs.Entries.{command_of}
-use Rattle.region_file.specs.declared.entry.Entry.{Entry as Kept}
 use Rattle.region_file.specs.declared.entry.Entry.TheVariants as kept
 use Rattle.region_state.specs.State.{State}
 use Rattle.region_table.specs.Steps.{Keeps, changed, if_there, kept_after}
+use Rattle.region_table.specs.Table.{Kept}
 
 pub at_here : (r : ℕ) → is_at (nat_cmp r) r ≡ true
 at_here r = grind arith

@@ -1,8 +1,9 @@
 -- The next entry by a table is the next one by its set.
-use Rattle.std.proofs.Common.{◌≡◌, ◌≢◌, ◌⊎◌, inl, inr, ◌∙◌, refl, sym, ap, subst, ℕ, ◌<◌, ◌≤◌, Bool, true, false, true≢false, cond, not, ◌&&◌, List, [], ◌∷◌, Option, Some, None, nat_lt, nat_le, arith, slice_get, length, fold, is_none, nat_cmp}
+use Rattle.std.proofs.Common.{◌≡◌, ◌≢◌, ◌⊎◌, inl, inr, ◌∙◌, refl, sym, ap, subst, ℕ, ◌<◌, ◌≤◌, Bool, true, false, true≢false, cond, not, ◌&&◌, List, [], ◌∷◌, Option, Some, None, nat_lt, nat_le, arith, slice_get, length, filter, is_none, is_some, nat_cmp}
 use Rattle.std.specs.Prelude.{◌==◌, ◌%◌}
 use Rattle.std.specs.BTreeMap.{is_at}
-use Rattle.std.specs.Map.{lookup}
+use Rattle.std.specs.Map.{lookup, keys_of}
+use Rattle.std.proofs.lemmas.Map.Keys.{sorted_tail}
 use Rattle.std.specs.List.{list_any, list_all}
 use Rattle.std.specs.Option.{option_or}
 use Rattle.std.proofs.lemmas.Option.{slice_get_within}
@@ -17,96 +18,75 @@ use Rattle.committed_log.specs.Regions.{range_of, index_of, acts_on, also_acted,
 use Rattle.committed_log.proofs.Closed.{entry_at, next_is, same_is}
 use Rattle.committed_log.proofs.Entries.{head_next}
 use Rattle.committed_log.proofs.Faults.{IsFine, both_true, or_first, or_second}
-use Rattle.committed_log.proofs.Positions.{find_is, find_none, each_first}
+use Rattle.committed_log.proofs.Maps.{Rise}
+use Rattle.committed_log.proofs.Positions.{Finds, find_is, find_least, find_none, each_first}
 use Rattle.committed_log.proofs.Ranks.{of_unborn, no_entry}
 use Rattle.committed_log.proofs.Ready.{CanBeApplied, ready_parts, applied_before, first_is_ready}
 use Rattle.committed_log.proofs.Waiting.{ready_by_regions}
-use Rattle.region_file.specs.declared.entry.Entry.{Entry as Kept}
-use Rattle.region_table.specs.Applying.{apply_fault, fault_by, least_ready, next_ready}
-use Rattle.region_table.specs.Nexts.{lesser, ready_in, passes_in, next_kept, if_passes, least_next}
-use Rattle.region_table.specs.Table.{Table, IsTableAt, IsCounted, kept_in, kept_at, state_in, there_at}
+use Rattle.region_table.specs.Applying.{apply_fault, fault_by, least_ready, next_ready, is_in_part, IsNextReady, AreApplied}
+use Rattle.region_table.specs.Nexts.{ready_in, passes_in, first_passing, first_below}
+use Rattle.region_table.specs.Table.{Table, IsTableAt, is_there, next_in, kept_in, state_in}
 use Rattle.region_table.specs.Counting.{applied_in}
 use Rattle.region_table.specs.Faults.{prepare_at_end}
 use Rattle.region_table.specs.declared.table.Counted.{Counted}
 use Rattle.region_table.proofs.Behind.{found, ready_without, without_ready}
 use Rattle.region_table.proofs.Counts.{TellsFirst, first_tells}
+use Rattle.region_table.proofs.Ordered.{one_key, in_rest, rest_above}
+use Rattle.region_table.proofs.Sets.{of_table}
 
--- ---- the least of some numbers
+-- ---- the first that passes
 
-abbrev AtMost : ℕ → Option ℕ → Type 0
-AtMost k None = ⊥
-AtMost k (Some m) = m ≤ k
+module _ (t : ℕ → Bool) where
+  abbrev Passes : Option ℕ → List (ℕ × Unit {0}) → Type 0
+  Passes None es = (q : ℕ) → is_some (next_in es q) ≡ true → t q ≡ false
+  Passes (Some m) es = (t m ≡ true) × ((q : ℕ) → is_some (next_in es q) ≡ true → q < m → t q ≡ false)
 
-abbrev Passes : (ℕ → Bool) → Option ℕ → Type 0
-Passes t None = Unit {0}
-Passes t (Some m) = t m ≡ true
-
-least_at_most : (k : ℕ) (a b : Option ℕ) → AtMost k a → AtMost k (lesser a b)
-least_at_most k None b h = absurd h
-least_at_most k (Some a) None h = h
-least_at_most k (Some a) (Some b) h = by (nat_le a b) refl
-  where
-    turned : (a b : ℕ) → nat_le a b ≡ false → b ≤ a
-    turned a b e = grind arith
-
-    by : (c : Bool) → nat_le a b ≡ c → AtMost k (cond c (Some a) (Some b))
-    by true is = h
-    by false is = (let le = turned a b is in omega (arith, le, h))
-
-least_second : (k : ℕ) (a : Option ℕ) → AtMost k (lesser a (Some k))
-least_second k None = omega arith
-least_second k (Some a) = by (nat_le a k) refl
-  where
-    told : (a k : ℕ) → nat_le a k ≡ true → a ≤ k
-    told a k e = grind arith
-
-    by : (c : Bool) → nat_le a k ≡ c → AtMost k (cond c (Some a) (Some k))
-    by true is = told a k is
-    by false is = omega arith
-
-least_passes : (t : ℕ → Bool) (a b : Option ℕ) → Passes t a → Passes t b → Passes t (lesser a b)
-least_passes t None b x y = y
-least_passes t (Some a) None x y = x
-least_passes t (Some a) (Some b) x y = elim (nat_le a b) as (λ c. Passes t (cond c (Some a) (Some b))) [ true ↦ x | false ↦ y ]
-
-if_passes_passes : (t : ℕ → Bool) (o : Option ℕ) → Passes t (if_passes t o)
-if_passes_passes t None = tt
-if_passes_passes t (Some p) = by (t p) refl
-  where
-    by : (b : Bool) → t p ≡ b → Passes t (cond b (Some p) None)
-    by true is = is
-    by false is = tt
-
-module _ (log : Log) (t : ℕ → Bool) where
-  abbrev from : Option ℕ → List (ℕ × Kept) → Option ℕ
-  from acc es = fold (λ least e. lesser least (if_passes t (next_kept log e))) acc es
-
-  from_passes : (acc : Option ℕ) (es : List (ℕ × Kept)) → Passes t acc → Passes t (from acc es)
-  from_passes acc [] h = h
-  from_passes acc (e ∷ es) h = from_passes (lesser acc (if_passes t (next_kept log e))) es (least_passes t acc (if_passes t (next_kept log e)) h (if_passes_passes t (next_kept log e)))
-
-  from_at_most : (k : ℕ) (acc : Option ℕ) (es : List (ℕ × Kept)) → AtMost k acc → AtMost k (from acc es)
-  from_at_most k acc [] h = h
-  from_at_most k acc (e ∷ es) h = from_at_most k (lesser acc (if_passes t (next_kept log e))) es (least_at_most k acc (if_passes t (next_kept log e)) h)
-
-  from_found : (k r : ℕ) (v : Kept) → if_passes t (next_kept log (r, v)) ≡ Some k → (acc : Option ℕ) (es : List (ℕ × Kept)) → lookup (is_at (nat_cmp r)) es ≡ Some v → AtMost k (from acc es)
-  from_found k r v is acc [] there = cc there
-  from_found k r v is acc (e ∷ es) there = by (is_at (nat_cmp r) e.0) refl (from_found k r v is (lesser acc (if_passes t (next_kept log e))) es)
+  first_passes : (es : List (ℕ × Unit {0})) → Rise nat_cmp es → Passes (first_passing t es) es
+  first_passes [] rise = λ q there. absurd (true≢false (sym there))
+  first_passes (e ∷ es) rise = by (first_passes es (sorted_tail nat_cmp e.0 (keys_of es) rise)) (t e.0) refl
     where
-      one : (r q : ℕ) → is_at (nat_cmp r) q ≡ true → r ≡ q
-      one r q e = grind arith
+      among : (q : ℕ) → is_some (next_in (e ∷ es) q) ≡ true → (q ≡ e.0) ⊎ (is_some (next_in es q) ≡ true)
+      among q there = by_key (is_at (nat_cmp q) e.0) refl
+        where
+          by_key : (b : Bool) → is_at (nat_cmp q) e.0 ≡ b → (q ≡ e.0) ⊎ (is_some (next_in es q) ≡ true)
+          by_key true is = inl (one_key q e.0 is)
+          by_key false out = inr (in_rest q e es out there)
 
-      by : (b : Bool) → is_at (nat_cmp r) e.0 ≡ b → (lookup (is_at (nat_cmp r)) es ≡ Some v → AtMost k (from (lesser acc (if_passes t (next_kept log e))) es)) → AtMost k (from (lesser acc (if_passes t (next_kept log e))) es)
-      by false at rest = rest (sym (ap (λ b. cond b (Some e.1) (lookup (is_at (nat_cmp r)) es)) at) ∙ there)
-      by true at rest =
-          let value : e.1 ≡ v = cc (sym (ap (λ b. cond b (Some e.1) (lookup (is_at (nat_cmp r)) es)) at) ∙ there) in
-          from_at_most k (lesser acc (if_passes t (next_kept log e))) es (subst (λ o. AtMost k (lesser acc o)) (sym ((λ i. if_passes t (next_kept log (sym (one r e.0 at) i, value i))) ∙ is)) (least_second k acc))
+      more : t e.0 ≡ false → (o : Option ℕ) → Passes o es → Passes o (e ∷ es)
+      more out None none = λ q there. elim (among q there) [ inl is ↦ ap t is ∙ out | inr later ↦ none q later ]
+      more out (Some m) some = (some.0, λ q there less. elim (among q there) [ inl is ↦ ap t is ∙ out | inr later ↦ some.1 q later less ])
+
+      here : t e.0 ≡ true → Passes (Some e.0) (e ∷ es)
+      here is = (
+        is,
+        λ q there less. elim (among q there) [
+          | inl same ↦ absurd (omega (arith, same, less))
+          | inr later ↦ (let high = rest_above e es rise q later in absurd (omega (arith, high, less)))
+        ],
+      )
+
+      by : Passes (first_passing t es) es → (b : Bool) → t e.0 ≡ b → Passes (option_or (cond (t e.0) (Some e.0) None) (first_passing t es)) (e ∷ es)
+      by rest true is = subst (λ b. Passes (option_or (cond b (Some e.0) None) (first_passing t es)) (e ∷ es)) (sym is) (here is)
+      by rest false is = subst (λ b. Passes (option_or (cond b (Some e.0) None) (first_passing t es)) (e ∷ es)) (sym is) (more is (first_passing t es) rest)
+
+  -- those that don't stand below a bound don't pass
+  first_below_is : (below : ℕ) → ((q : ℕ) → nat_lt q below ≡ false → t q ≡ false) → (es : List (ℕ × Unit {0})) → first_below t below es ≡ first_passing t es
+  first_below_is below out [] = refl
+  first_below_is below out (e ∷ es) = by (nat_lt e.0 below) refl (first_below_is below out es)
+    where
+      by : (b : Bool) → nat_lt e.0 below ≡ b → first_below t below es ≡ first_passing t es → first_passing t (cond (nat_lt e.0 below) (e ∷ filter (λ (x : ℕ × Unit {0}). nat_lt x.0 below) es) (filter (λ (x : ℕ × Unit {0}). nat_lt x.0 below) es)) ≡ first_passing t (e ∷ es)
+      by true is rest = ap (λ b. first_passing t (cond b (e ∷ filter (λ (x : ℕ × Unit {0}). nat_lt x.0 below) es) (filter (λ (x : ℕ × Unit {0}). nat_lt x.0 below) es))) is ∙ ap (option_or (cond (t e.0) (Some e.0) None)) rest
+      by false is rest = ap (λ b. first_passing t (cond b (e ∷ filter (λ (x : ℕ × Unit {0}). nat_lt x.0 below) es) (filter (λ (x : ℕ × Unit {0}). nat_lt x.0 below) es))) is ∙ rest
+          ∙ sym (ap (λ b. option_or (cond b (Some e.0) None) (first_passing t es)) (out e.0 is))
 
 -- ---- at a table
 
-module _ (log : Log) (lawful : IsLawful log) (A : ℕ → Bool) (t : Table) (is : IsTableAt log A t) (c : Counted) (counted : IsCounted log A c) where
+module _ (log : Log) (lawful : IsLawful log) (A : ℕ → Bool) (t : Table) (is : IsTableAt log A t) where
+  abbrev c : Counted
+  c = t.counted
+
   told : TellsFirst A (length log.entries) c.first
-  told = subst (TellsFirst A (length log.entries)) (sym counted.first) (first_tells A (length log.entries))
+  told = subst (TellsFirst A (length log.entries)) (sym is.counted.first) (first_tells A (length log.entries))
 
   module _ (test : Entry → Bool) (below : ℕ) where
     abbrev T : ℕ → Bool
@@ -170,7 +150,7 @@ module _ (log : Log) (lawful : IsLawful log) (A : ℕ → Bool) (t : Table) (is 
             out false e = e
             out true e = (let can = ready_parts log A q e in absurd (cc (sym past ∙ can.here)))
         by (Some e) here = ap (λ o. elim o [ None ↦ false | Some e ↦ is_none (fault_by log (state_in t.regions) (applied_in log t.regions q) c.first (prepare_at_end log e.body) q e) ]) here
-            ∙ ap is_none (found log lawful A t is q e here c counted)
+            ∙ ap is_none (found log lawful A t.regions (of_table log A t is) q e here c is.counted)
             ∙ both_ways (is_none (apply_fault log A q e)) (is_ready log A q) (λ none. ready_without log lawful A is.closed q e here (none_of (apply_fault log A q e) none)) (λ ready. ap is_none (without_ready log lawful A is.closed q e here ready))
 
     -- a ready entry that isn't the first that is out is the next one of a region
@@ -232,48 +212,42 @@ module _ (log : Log) (lawful : IsLawful log) (A : ℕ → Bool) (t : Table) (is 
               by false out = off (not (A x)) (acts_at log can_be.entry.region x) (at_x ∙ out)
               by true act = ap (λ b. not b && acts_at log can_be.entry.region x) (can_be.earlier x y less here (or_second (body_waits_for can_be.entry.body y) (acts_on can_be.entry.region y) act))
 
-      next_of_region : (v : Kept) × ((kept_in t.regions can_be.entry.region ≡ Some v) × (next_kept log (can_be.entry.region, v) ≡ Some q))
-      next_of_region = by (region_at log can_be.entry.region q) refl
+      pub among : is_some (next_in t.nexts q) ≡ true
+      among = is.nexts.all q can_be.entry.region (by (region_at log can_be.entry.region q) refl) next_here
         where
-          by : (st : Region) → region_at log can_be.entry.region q ≡ st → (v : Kept) × ((kept_in t.regions can_be.entry.region ≡ Some v) × (next_kept log (can_be.entry.region, v) ≡ Some q))
+          by : (st : Region) → region_at log can_be.entry.region q ≡ st → is_there (applied log A can_be.entry.region) ≡ true
           by Unborn there = absurd (true≢false (sym (of_unborn q (at log q).regions can_be.entry fine there) ∙ old (makes_region can_be.entry.body) refl))
-          by (Live d) there = (there_at log can_be.entry.region d None, (is.regions can_be.entry.region ∙ ap (kept_at log can_be.entry.region) (left ∙ there), sym (next_is log lawful A is.closed can_be.entry.region d.index d.range (ap range_of (left ∙ there)) (ap index_of (left ∙ there))) ∙ next_here))
+          by (Live d) there = ap is_there (left ∙ there)
           by (Prepared d target) there = absurd (no_entry q (at log q).regions can_be.entry fine (Prepared d target) there refl refl)
           by (Gone last) there = absurd (no_entry q (at log q).regions can_be.entry fine (Gone last) there refl refl)
 
-      pub reached : AtMost q (least_next log T t.regions)
-      reached = from_found log T q can_be.entry.region next_of_region.0 (ap (if_passes T) next_of_region.1.1 ∙ ap (λ b. cond b (Some q) None) passes) None t.regions next_of_region.1.0
-
     -- so the least of them is the least ready one, where the first that is out doesn't pass
-    pub least_is : T c.first ≡ false → least_next log T t.regions ≡ least_ready log A test below
-    least_is out = by (least_next log T t.regions) refl (from_passes log T None t.regions tt)
+    pub least_is : Rise nat_cmp t.nexts → T c.first ≡ false → first_below T below t.nexts ≡ least_ready log A test below
+    least_is rise out = first_below_is T below (λ q over. ap (λ b. b && (is_ready log A q && entry_is log test q)) over) t.nexts ∙ by (first_passing T t.nexts) (first_passes T t.nexts rise)
       where
         not_first : (q : ℕ) → T q ≡ true → q ≢ c.first
         not_first q passes same = true≢false (sym passes ∙ ap T same ∙ out)
 
-        by : (o : Option ℕ) → least_next log T t.regions ≡ o → Passes T (least_next log T t.regions) → o ≡ least_ready log A test below
-        by None none pass = sym (find_none T (length log.entries) (λ q low. no q (T q) refl))
+        by : (o : Option ℕ) → Passes T o t.nexts → o ≡ least_ready log A test below
+        by None none = sym (find_none T (length log.entries) (λ q low. no q (T q) refl))
           where
             no : (q : ℕ) (b : Bool) → T q ≡ b → T q ≡ false
             no q false e = e
-            no q true e = absurd (subst (AtMost q) none (reached q e (not_first q e)))
-        by (Some m) some pass = sym (find_is T (length log.entries) m (record { below = within m passes (not_first m passes); passes = passes; first = λ q less. no q less (T q) refl }))
+            no q true e = none q (among q e (not_first q e))
+        by (Some m) some = sym (find_is T (length log.entries) m (record { below = within m some.0 (not_first m some.0); passes = some.0; first = λ q less. no q less (T q) refl }))
           where
-            passes : T m ≡ true
-            passes = subst (Passes T) some pass
-
             no : (q : ℕ) → q < m → (b : Bool) → T q ≡ b → T q ≡ false
             no q less false e = e
-            no q less true e = (let le : m ≤ q = subst (AtMost q) some (reached q e (not_first q e)) in absurd (omega (arith, less, le)))
+            no q less true e = some.1 q (among q e (not_first q e)) less
 
-    pub least_next_is : T c.first ≡ false → least_next log (passes_in log t.regions c.first test below) t.regions ≡ least_ready log A test below
-    least_next_is out = ap (λ f. least_next log f t.regions) (λ i q. tests_same q i) ∙ least_is out
+    pub least_next_is : Rise nat_cmp t.nexts → T c.first ≡ false → first_below (passes_in log t.regions c.first test below) below t.nexts ≡ least_ready log A test below
+    least_next_is rise out = ap (λ f. first_below f below t.nexts) (λ i q. tests_same q i) ∙ least_is rise out
 
   -- ---- the answer
 
   module _ (part parts below : ℕ) where
     abbrev in_part : Entry → Bool
-    in_part x = x.region % parts == part
+    in_part = is_in_part part parts
 
     abbrev any : Entry → Bool
     any x = true
@@ -302,8 +276,56 @@ module _ (log : Log) (lawful : IsLawful log) (A : ℕ → Bool) (t : Table) (is 
         not_in : T in_part below c.first ≡ false
         not_in = off in_part below (nat_lt c.first below) (is_ready log A c.first && entry_is log in_part c.first) (off in_part below (is_ready log A c.first) (entry_is log in_part c.first) out)
 
-        pub some_next : (m : ℕ) → least_next log (passes_in log t.regions c.first in_part below) t.regions ≡ Some m → Some m ≡ next_ready log A part parts below
-        some_next m some = sym (ap (λ o. option_or o (least_ready log A any below)) (sym (least_next_is in_part below not_in) ∙ some))
+        pub some_next : Rise nat_cmp t.nexts → (m : ℕ) → first_below (passes_in log t.regions c.first in_part below) below t.nexts ≡ Some m → Some m ≡ next_ready log A part parts below
+        some_next rise m some = sym (ap (λ o. option_or o (least_ready log A any below)) (sym (least_next_is in_part below rise not_in) ∙ some))
 
-        pub else_next : least_next log (passes_in log t.regions c.first in_part below) t.regions ≡ None → Some c.first ≡ next_ready log A part parts below
-        else_next none = sym ((λ i. option_or ((sym (least_next_is in_part below not_in) ∙ none) i) (least_ready log A any below)) ∙ first_found any below low within (any_entry within))
+        pub else_next : Rise nat_cmp t.nexts → first_below (passes_in log t.regions c.first in_part below) below t.nexts ≡ None → Some c.first ≡ next_ready log A part parts below
+        else_next rise none = sym ((λ i. option_or ((sym (least_next_is in_part below rise not_in) ∙ none) i) (least_ready log A any below)) ∙ first_found any below low within (any_entry within))
+
+    -- ---- what the answer is
+
+    ready_of : (test : Entry → Bool) (o : Option ℕ) → Finds (λ p. nat_lt p below && (is_ready log A p && entry_is log test p)) (length log.entries) o → (m : ℕ) → o ≡ Some m → (is_ready log A m ≡ true) × (m < below) × (entry_is log test m ≡ true)
+    ready_of test None none m is = absurd (cc is)
+    ready_of test (Some x) least m is =
+        let same : x ≡ m = cc is in
+        let parts = both_true (nat_lt x below) (is_ready log A x && entry_is log test x) least.passes in
+        let rest = both_true (is_ready log A x) (entry_is log test x) parts.1 in
+        (ap (is_ready log A) (sym same) ∙ rest.0, lower m below (ap (λ z. nat_lt z below) (sym same) ∙ parts.0), ap (entry_is log test) (sym same) ∙ rest.1)
+      where
+        lower : (a b : ℕ) → nat_lt a b ≡ true → a < b
+        lower a b e = grind arith
+
+    pub next_is_ready : (m : ℕ) → next_ready log A part parts below ≡ Some m → IsNextReady log A part parts below m
+    next_is_ready m is = by (least_ready log A in_part below) refl
+      where
+        by : (o : Option ℕ) → least_ready log A in_part below ≡ o → IsNextReady log A part parts below m
+        by None none =
+            let found = ready_of any (least_ready log A any below) (find_least (λ p. nat_lt p below && (is_ready log A p && entry_is log any p)) (length log.entries)) m (sym (ap (λ o. option_or o (least_ready log A any below)) none) ∙ is) in
+            record { ready = found.0; low = found.1; fits = inr none }
+        by (Some x) some =
+            let same : x ≡ m = cc (sym (ap (λ o. option_or o (least_ready log A any below)) some) ∙ is) in
+            let found = ready_of in_part (least_ready log A in_part below) (find_least (λ p. nat_lt p below && (is_ready log A p && entry_is log in_part p)) (length log.entries)) m (some ∙ ap Some same) in
+            record { ready = found.0; low = found.1; fits = inl found.2 }
+
+    -- none is ready exactly where all below are applied
+    left_applied : next_ready log A part parts below ≡ None → (p : ℕ) → p < below → p < length log.entries → A p ≡ true
+    left_applied none p low within = elim (order p c.first) [
+      | inl less ↦ told.passed p less
+      | inr le ↦ absurd (cc (sym none ∙ sym (some_at le).1))
+    ]
+      where
+        order : (a b : ℕ) → (a < b) ⊎ (b ≤ a)
+        order a b = grind arith
+
+        some_at : c.first ≤ p → (m : ℕ) × (Some m ≡ next_ready log A part parts below)
+        some_at le = by (least_ready log A in_part below) refl
+          where
+            by : (o : Option ℕ) → least_ready log A in_part below ≡ o → (m : ℕ) × (Some m ≡ next_ready log A part parts below)
+            by (Some m) some = (m, sym (ap (λ o. option_or o (least_ready log A any below)) some))
+            by None empty = (c.first, sym (ap (λ o. option_or o (least_ready log A any below)) empty ∙ first_found any below (omega (arith, le, low)) (omega (arith, le, within)) (any_entry (omega (arith, le, within)))))
+
+    pub none_is_left : next_ready log A part parts below ≡ None → AreApplied log A below
+    none_is_left none = λ p low within. left_applied none p low within
+
+    pub all_are_left : AreApplied log A below → None ≡ next_ready log A part parts below
+    all_are_left all = sym (λ i. option_or (none_left in_part below all i) (none_left any below all i))

@@ -1,8 +1,6 @@
--- Counts and finds over the first numbers, as one more comes.
-use Rattle.std.proofs.Common.{◌≡◌, ◌∙◌, refl, ap, ℕ, suc, ◌+◌, Bool, true, false, not, cond, List, [], ◌∷◌, ◌++◌, Some, None, arith, add-one, filter, find, length}
-use Rattle.std.specs.Option.{option_or}
+-- Counts over the first numbers, as one more comes.
+use Rattle.std.proofs.Common.{◌≡◌, ◌∙◌, refl, ap, ℕ, suc, ◌+◌, Bool, true, false, cond, List, [], ◌∷◌, ◌++◌, arith, add-one, filter, length}
 use Rattle.committed_log.specs.Applied.{first_numbers}
-use Rattle.committed_log.proofs.Positions.{find_push}
 
 count_push : (t : ℕ → Bool) (xs : List ℕ) (x : ℕ) → length (filter t (xs ++ x ∷ [])) ≡ cond (t x) (length (filter t xs) + 1) (length (filter t xs))
 count_push t [] x = elim (t x) as (λ b. length (cond b (x ∷ []) []) ≡ cond b (0 + 1) 0) [ true ↦ refl | false ↦ refl ]
@@ -17,10 +15,3 @@ count_push t (y ∷ ys) x = by (t y) (t x) (count_push t ys x)
 
 pub count_more : (t : ℕ → Bool) (n : ℕ) → length (filter t (first_numbers (n + 1))) ≡ cond (t n) (length (filter t (first_numbers n)) + 1) (length (filter t (first_numbers n)))
 count_more t n = ap (λ m. length (filter t (first_numbers m))) (add-one n) ∙ count_push t (first_numbers n) n
-
-turned : (b : Bool) (n : ℕ) → cond (not b) (Some n) None ≡ cond b None (Some n)
-turned true n = refl
-turned false n = refl
-
-pub find_more : (t : ℕ → Bool) (n : ℕ) → find (λ p. not (t p)) (first_numbers (n + 1)) ≡ option_or (find (λ p. not (t p)) (first_numbers n)) (cond (t n) None (Some n))
-find_more t n = ap (λ m. find (λ p. not (t p)) (first_numbers m)) (add-one n) ∙ find_push (λ p. not (t p)) (first_numbers n) n ∙ ap (option_or (find (λ p. not (t p)) (first_numbers n))) (turned (t n) n)

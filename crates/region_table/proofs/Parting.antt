@@ -2,8 +2,8 @@
 use Rattle.std.proofs.Common.{◌≡◌, ◌∙◌, ap, ℕ, Bool, true, false, cond, refl, Option, Some}
 use Rattle.std.specs.BTreeMap.{is_at}
 use Rattle.std.specs.Ordering.{nat_cmp}
-use Rattle.region_file.specs.declared.entry.Entry.{Entry as Kept}
 use Rattle.region_table.specs.Steps.{changed, Keeps}
+use Rattle.region_table.specs.Table.{Kept}
 
 -- what stood for the first meanwhile doesn't show
 pub parted : (f : Keeps) (r child : ℕ) (lower upper meanwhile : Kept) (x y z : Option Kept) (q : ℕ) →

@@ -1,5 +1,5 @@
 -- A table tells which entries are applied.
-use Rattle.std.proofs.Common.{◌≡◌, ◌⊎◌, inl, inr, ◌∙◌, refl, sym, ap, ℕ, suc, ◌+◌, ◌<◌, ◌≤◌, Bool, true, false, true≢false, ◌&&◌, Option, Some, None, nat_le, arith, slice_get, length}
+use Rattle.std.proofs.Common.{◌≡◌, ◌⊎◌, inl, inr, ◌∙◌, refl, sym, ap, ℕ, suc, ◌+◌, ◌<◌, ◌≤◌, Bool, true, false, true≢false, ◌&&◌, Option, Some, None, nat_le, arith, slice_get, length, List}
 use Rattle.std.specs.Prelude.{◌==◌}
 use Rattle.std.specs.List.{list_any}
 use Rattle.std.proofs.lemmas.Option.{slice_get_within}
@@ -18,20 +18,23 @@ use Rattle.committed_log.proofs.Places.{index_grows}
 use Rattle.committed_log.proofs.Positions.{IsGreatest}
 use Rattle.committed_log.proofs.Ranks.{rank, rank_grows}
 use Rattle.region_table.specs.Counting.{has_reached, applied_in}
-use Rattle.region_table.specs.Table.{Table, IsTableAt, state_in, state_kept, kept_at}
+use Rattle.region_table.specs.Table.{Kept, Table, IsTableAt, AreRegionsAt, state_in, state_kept, kept_at}
 
 -- the state that is kept of a region is the region's
-state_of_kept : (log : Log) (r : ℕ) (s : Region) → state_kept (kept_at log r s) ≡ s
+pub state_of_kept : (log : Log) (r : ℕ) (s : Region) → state_kept (kept_at log r s) ≡ s
 state_of_kept log r Unborn = refl
 state_of_kept log r (Live d) = refl
 state_of_kept log r (Prepared d target) = refl
 state_of_kept log r (Gone index) = refl
 
-pub state_is : (log : Log) (A : ℕ → Bool) (t : Table) → IsTableAt log A t → (r : ℕ) → state_in t.regions r ≡ applied log A r
-state_is log A t is r = ap state_kept (is.regions r) ∙ state_of_kept log r (applied log A r)
+pub of_table : (log : Log) (A : ℕ → Bool) (t : Table) → IsTableAt log A t → AreRegionsAt log A t.regions
+of_table log A t is = record { closed = is.closed; regions = is.regions }
 
-pub states_are : (log : Log) (A : ℕ → Bool) (t : Table) → IsTableAt log A t → state_in t.regions ≡ applied log A
-states_are log A t is = λ i r. state_is log A t is r i
+pub state_is : (log : Log) (A : ℕ → Bool) (regions : List (ℕ × Kept)) → AreRegionsAt log A regions → (r : ℕ) → state_in regions r ≡ applied log A r
+state_is log A regions is r = ap state_kept (is.regions r) ∙ state_of_kept log r (applied log A r)
+
+pub states_are : (log : Log) (A : ℕ → Bool) (regions : List (ℕ × Kept)) → AreRegionsAt log A regions → state_in regions ≡ applied log A
+states_are log A regions is = λ i r. state_is log A regions is r i
 
 both : (a b : Bool) → a ≡ true → b ≡ true → (a && b) ≡ true
 both true b e f = f
@@ -105,12 +108,12 @@ module _ (log : Log) (lawful : IsLawful log) (A : ℕ → Bool) (closed : IsClos
       by true is = let e = entry_at log p (closed.within p is) in cc (sym past ∙ e.1)
 
 -- the set of a table, by the indexes of its regions
-pub tells : (log : Log) → IsLawful log → (A : ℕ → Bool) (t : Table) → IsTableAt log A t → (p : ℕ) → A p ≡ applied_in log t.regions p
-tells log lawful A t is p = by (slice_get log.entries p) refl
+pub tells : (log : Log) → IsLawful log → (A : ℕ → Bool) (regions : List (ℕ × Kept)) → AreRegionsAt log A regions → (p : ℕ) → A p ≡ applied_in log regions p
+tells log lawful A regions is p = by (slice_get log.entries p) refl
   where
-    by : (o : Option Entry) → slice_get log.entries p ≡ o → A p ≡ elim o [ None ↦ false | Some e ↦ has_reached (index_of (state_in t.regions e.region)) e.index ]
+    by : (o : Option Entry) → slice_get log.entries p ≡ o → A p ≡ elim o [ None ↦ false | Some e ↦ has_reached (index_of (state_in regions e.region)) e.index ]
     by None past = none_past log lawful A is.closed p past
-    by (Some e) here = told_here log lawful A is.closed p e here ∙ ap (λ s. has_reached (index_of s) e.index) (sym (state_is log A t is e.region))
+    by (Some e) here = told_here log lawful A is.closed p e here ∙ ap (λ s. has_reached (index_of s) e.index) (sym (state_is log A regions is e.region))
 
-pub set_is : (log : Log) → IsLawful log → (A : ℕ → Bool) (t : Table) → IsTableAt log A t → applied_in log t.regions ≡ A
-set_is log lawful A t is = λ i p. sym (tells log lawful A t is p) i
+pub set_is : (log : Log) → IsLawful log → (A : ℕ → Bool) (regions : List (ℕ × Kept)) → AreRegionsAt log A regions → applied_in log regions ≡ A
+set_is log lawful A regions is = λ i p. sym (tells log lawful A regions is p) i

@@ -13,17 +13,16 @@ use Rattle.flash_types.specs.declared.range.HandleRange.{HandleRange}
 use Rattle.committed_log.specs.Lawful.{IsLawful}
 use Rattle.committed_log.specs.Log.{Log}
 use Rattle.committed_log.proofs.Maps.{Rise}
-use Rattle.region_file.specs.declared.entry.Entry.{Entry as Kept}
 use Rattle.region_file.specs.declared.entry.Entry.TheVariants as kept
 use Rattle.region_file.specs.Regions.{meet, range_in, ranges_of, regions_of}
 use Rattle.region_file.specs.Spelling as spelling
 use Rattle.region_file.specs.Spelling.{CanBeWritten, AreApart}
 use Rattle.region_file.proofs.FileAgain.{file_again}
 use Rattle.region_state.specs.State.{State}
-use Rattle.region_table.specs.Table.{Table, IsTableAt, kept_in}
+use Rattle.region_table.specs.Table.{Kept, AreRegionsAt, kept_in}
 use Rattle.region_table.proofs.Apart.{tables_apart}
 use Rattle.region_table.proofs.Locals.{at_here}
-use Rattle.region_table.proofs.Unions.{past}
+use Rattle.region_steps.proofs.Unions.{past}
 
 -- ---- where ids rise
 
@@ -78,5 +77,5 @@ ranges_apart (e ∷ es) rise apart =
 
 -- ---- the file of a table
 
-pub table_again : (log : Log) → IsLawful log → (A : ℕ → Bool) (t : Table) → IsTableAt log A t → CanBeWritten t.regions → regions_of (spelling.file t.regions) ≡ Ok t.regions
-table_again log lawful A t is fits = file_again t.regions fits (ranges_apart t.regions fits.ids (tables_apart log lawful A t is))
+pub table_again : (log : Log) → IsLawful log → (A : ℕ → Bool) (regions : List (ℕ × Kept)) → AreRegionsAt log A regions → CanBeWritten regions → regions_of (spelling.file regions) ≡ Ok regions
+table_again log lawful A regions is fits = file_again regions fits (ranges_apart regions fits.ids (tables_apart log lawful A regions is))

@@ -1,5 +1,5 @@
 -- Why an entry can't be applied to a table, and which entry comes next.
-use Rattle.std.specs.Prelude.{ℕ, ◌-◌, Bool, true, ◌&&◌, ◌||◌, Option, Some, None, find, nat_lt, ◌%◌, ◌==◌, if◌then◌else◌, slice_get, unwrap_or}
+use Rattle.std.specs.Prelude.{◌≡◌, ◌⊎◌, ℕ, ◌<◌, ◌-◌, Bool, true, ◌&&◌, ◌||◌, Option, Some, None, find, nat_lt, ◌%◌, ◌==◌, if◌then◌else◌, slice_get, unwrap_or, length}
 use Rattle.std.specs.Option.{option_or}
 use Rattle.log_codec.specs.declared.entry.Entry.{Entry}
 use Rattle.log_codec.specs.declared.entry.Body.{Body}
@@ -9,7 +9,7 @@ use Rattle.committed_log.specs.Laws.{is_after, is_prepared}
 use Rattle.committed_log.specs.Log.{Log, at}
 use Rattle.committed_log.specs.Regions.{region, index_of, makes_region}
 use Rattle.committed_log.specs.declared.region.Region.{Region}
-use Rattle.region_table.specs.Table.{first_out}
+use Rattle.region_table.specs.Table.{Table, IsReady, AtItsSet, first_out}
 use Rattle.region_table.specs.declared.fault.ApplyError.{ApplyError}
 use Rattle.region_table.specs.declared.fault.ApplyError.TheVariants as fault
 
@@ -49,6 +49,21 @@ prepare_index log p _ = 0
 abbrev pub apply_fault : Log → (ℕ → Bool) → ℕ → Entry → Option ApplyError
 apply_fault log A p e = fault_by log (applied log A) (A p) (first_out log A) (prepare_index log p e.body) p e
 
+-- a region with this last index hasn't come to the index that is wanted
+abbrev pub IsBehind : Option ℕ → ℕ → Type 0
+IsBehind None wants = Unit {0}
+IsBehind (Some last) wants = last < wants
+
+-- the entry at position p has this fault where the table is the log's
+abbrev pub HasFault : Log → Table → ℕ → ApplyError → Type 0
+HasFault log t p why = AtItsSet log t (λ A. (e : Entry) → slice_get log.entries p ≡ Some e → apply_fault log A p e ≡ Some why)
+
+-- why it isn't applied: it has this fault, or memory ran out where it has none
+abbrev pub IsCause : Log → Table → ℕ → ApplyError → Type 0
+IsCause log t p (fault.Done r last) = HasFault log t p (fault.Done r last)
+IsCause log t p (fault.Early r last wants) = HasFault log t p (fault.Early r last wants)
+IsCause log t p fault.Memory = IsReady log t p
+
 -- ---- what comes next
 
 -- the least ready position below a number of which the entry passes a test
@@ -58,3 +73,17 @@ least_ready log A test below = find (λ p. nat_lt p below && (is_ready log A p &
 -- The appliers part the regions among them by number. Each is given the least ready entry of its part, or else the least of all.
 abbrev pub next_ready : Log → (ℕ → Bool) → ℕ → ℕ → ℕ → Option ℕ
 next_ready log A part parts below = option_or (least_ready log A (λ e. e.region % parts == part) below) (least_ready log A (λ e. true) below)
+
+-- whether an entry is of a part of the regions
+abbrev pub is_in_part : ℕ → ℕ → Entry → Bool
+is_in_part part parts e = e.region % parts == part
+
+-- It is ready, stands below the bound, and is of the part or else no entry of the part below the bound is ready.
+pub record IsNextReady (log : Log) (A : ℕ → Bool) (part parts below p : ℕ) : Type 0 where
+  pub ready : is_ready log A p ≡ true
+  pub low : p < below
+  pub fits : (entry_is log (is_in_part part parts) p ≡ true) ⊎ (least_ready log A (is_in_part part parts) below ≡ None)
+
+-- every entry below a number is applied
+abbrev pub AreApplied : Log → (ℕ → Bool) → ℕ → Type 0
+AreApplied log A below = (p : ℕ) → p < below → p < length log.entries → A p ≡ true

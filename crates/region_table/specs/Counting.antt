@@ -3,8 +3,7 @@ use Rattle.std.specs.Prelude.{◌≡◌, ℕ, ◌<◌, ◌≤◌, Bool, true, fa
 use Rattle.committed_log.specs.Applied.{entry_is}
 use Rattle.committed_log.specs.Log.{Log}
 use Rattle.committed_log.specs.Regions.{index_of}
-use Rattle.region_file.specs.declared.entry.Entry.{Entry as Kept}
-use Rattle.region_table.specs.Table.{state_in}
+use Rattle.region_table.specs.Table.{Kept, state_in}
 
 -- whether a region with this last index has come to an index
 abbrev pub has_reached : Option ℕ → ℕ → Bool

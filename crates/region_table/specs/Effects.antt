@@ -9,11 +9,11 @@ use Rattle.good_replica.specs.Effect.{added, clearing}
 use Rattle.raft_apply.specs.declared.command.Command.{Command}
 use Rattle.raft_apply.specs.declared.command.Command.TheVariants as command
 use Rattle.raft_apply.specs.declared.command.Parsed.{Parsed}
-use Rattle.region_file.specs.declared.entry.Entry.{Entry as Kept}
 use Rattle.region_file.specs.declared.entry.Entry.TheVariants as kept
 use Rattle.region_state.specs.Folding.{versions_of}
 use Rattle.region_state.specs.State.{born}
 use Rattle.region_table.specs.declared.effect.Effect.{Effect}
+use Rattle.region_table.specs.Table.{Kept}
 
 -- the effect is that of the log's entry at its position: its region and index, the handles that it clears, and the versions that it adds
 pub record IsEffect (log : Log) (x : Parsed) (effect : Effect) : Type 0 where

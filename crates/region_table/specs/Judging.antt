@@ -8,10 +8,9 @@ use Rattle.flash_types.specs.declared.refusal.Wants.TheVariants as wants
 use Rattle.committed_log.specs.Applied.{next_of}
 use Rattle.committed_log.specs.Log.{Log}
 use Rattle.committed_log.specs.Replies.{first_lock, same_epoch, unsettled_refusal}
-use Rattle.region_file.specs.declared.entry.Entry.{Entry as Kept}
 use Rattle.region_file.specs.declared.entry.Entry.TheVariants as kept
 use Rattle.region_state.specs.State.{State}
-use Rattle.region_table.specs.Table.{kept_in}
+use Rattle.region_table.specs.Table.{Kept, kept_in}
 
 abbrev pub locked : ℕ → ℕ → State → Option Refusal
 locked ts r s = elim (first_lock s.locks s.descriptor.range ts) [ None ↦ None | Some l ↦ Some (refusal.Locked r s.descriptor.index l.0 l.1.start) ]

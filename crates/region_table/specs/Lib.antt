@@ -8,3 +8,4 @@ pub mod Effects
 pub mod Nexts
 pub mod Live
 pub mod Agreeing
+pub mod Opening

@@ -1,19 +1,17 @@
 -- Which entry comes next, by what a table keeps. It is what the row store says at the table's set, as a law tells.
-use Rattle.std.specs.Prelude.{ℕ, Bool, ◌&&◌, Option, Some, None, List, nat_lt, nat_le, if◌then◌else◌, fold, is_none}
+use Rattle.std.specs.Prelude.{ℕ, Bool, ◌&&◌, Option, Some, None, List, [], ◌∷◌, nat_lt, if◌then◌else◌, filter, is_none, cond}
+use Rattle.std.specs.BTreeMap.{is_at}
+use Rattle.std.specs.Option.{option_or}
+use Rattle.std.specs.Ordering.{nat_cmp}
 use Rattle.log_codec.specs.declared.entry.Entry.{Entry}
 use Rattle.committed_log.specs.Applied.{entry_is, next_of}
 use Rattle.committed_log.specs.Log.{Log}
-use Rattle.region_file.specs.declared.entry.Entry.{Entry as Kept}
-use Rattle.region_file.specs.declared.entry.Entry.TheVariants as kept
+use Rattle.raft_apply.specs.declared.command.Command.{Command}
+use Rattle.raft_apply.specs.declared.command.Command.TheVariants as command
 use Rattle.region_table.specs.Applying.{fault_by}
 use Rattle.region_table.specs.Counting.{applied_in}
 use Rattle.region_table.specs.Faults.{prepare_at_end}
-use Rattle.region_table.specs.Table.{state_in}
-
-abbrev pub lesser : Option ℕ → Option ℕ → Option ℕ
-lesser None b = b
-lesser (Some a) None = Some a
-lesser (Some a) (Some b) = if nat_le a b then Some a else Some b
+use Rattle.region_table.specs.Table.{Kept, state_in}
 
 -- whether the entry at a position is ready, where `first` is the first that isn't applied
 abbrev pub ready_in : Log → List (ℕ × Kept) → ℕ → ℕ → Bool
@@ -23,14 +21,44 @@ ready_in log regions first p = entry_is log (λ e. is_none (fault_by log (state_
 abbrev pub passes_in : Log → List (ℕ × Kept) → ℕ → (Entry → Bool) → ℕ → ℕ → Bool
 passes_in log regions first test below p = nat_lt p below && (ready_in log regions first p && entry_is log test p)
 
-abbrev pub next_kept : Log → ℕ × Kept → Option ℕ
-next_kept log (r, kept.Gone index) = None
-next_kept log (r, kept.There s) = next_of log r s.descriptor.index
+-- ---- the first of the next entries that passes
 
--- the next entry of a region, where it passes
-abbrev pub if_passes : (ℕ → Bool) → Option ℕ → Option ℕ
-if_passes passes None = None
-if_passes passes (Some p) = if passes p then Some p else None
+abbrev pub if_passes : (ℕ → Bool) → ℕ → Option ℕ
+if_passes passes p = if passes p then Some p else None
 
-abbrev pub least_next : Log → (ℕ → Bool) → List (ℕ × Kept) → Option ℕ
-least_next log passes regions = fold (λ least e. lesser least (if_passes passes (next_kept log e))) None regions
+abbrev pub first_passing : (ℕ → Bool) → List (ℕ × Unit {0}) → Option ℕ
+first_passing passes [] = None
+first_passing passes (e ∷ es) = option_or (if_passes passes e.0) (first_passing passes es)
+
+abbrev pub first_below : (ℕ → Bool) → ℕ → List (ℕ × Unit {0}) → Option ℕ
+first_below passes below nexts = first_passing passes (filter (λ (e : ℕ × Unit {0}). nat_lt e.0 below) nexts)
+
+-- ---- as an entry is applied
+
+-- the next entry of the region of an entry, where this leaves it there
+abbrev pub own_next : Log → ℕ → ℕ → Command → Option ℕ
+own_next log r index (command.Open epoch range) = next_of log r index
+own_next log r index (command.Write ops) = next_of log r index
+own_next log r index (command.Split at child) = next_of log r index
+own_next log r index (command.Prepare target) = next_of log r index
+own_next log r index (command.Commit source) = next_of log r index
+own_next log r index command.Remove = None
+own_next log r index (command.Install epoch range ops) = next_of log r index
+own_next log r index command.Empty = next_of log r index
+
+-- and of the child of a split, whose first index is 5
+abbrev pub child_next : Log → Command → Option ℕ
+child_next log (command.Split at child) = next_of log child 5
+child_next log _ = None
+
+abbrev pub plus : Option ℕ → (ℕ → Option (Unit {0})) → ℕ → Option (Unit {0})
+plus None f q = f q
+plus (Some p) f q = cond (is_at (nat_cmp p) q) (Some (tt {0})) (f q)
+
+abbrev pub minus : Option ℕ → (ℕ → Option (Unit {0})) → ℕ → Option (Unit {0})
+minus None f q = f q
+minus (Some p) f q = cond (is_at (nat_cmp p) q) None (f q)
+
+-- the next positions after an entry of region r with this index, at position p
+abbrev pub nexts_after : Log → ℕ → ℕ → ℕ → Command → (ℕ → Option (Unit {0})) → ℕ → Option (Unit {0})
+nexts_after log p r index c f q = minus (Some p) (plus (child_next log c) (plus (own_next log r index c) f)) q

@@ -9,10 +9,10 @@ use Rattle.flash_types.specs.declared.Epoch.{Epoch}
 use Rattle.committed_log.specs.Admission.{touch}
 use Rattle.raft_apply.specs.declared.command.Command.{Command}
 use Rattle.raft_apply.specs.declared.command.Command.TheVariants as command
-use Rattle.region_file.specs.declared.entry.Entry.{Entry as Kept}
 use Rattle.region_file.specs.declared.entry.Entry.TheVariants as kept
 use Rattle.region_state.specs.Folding.{folded, lies_in}
 use Rattle.region_state.specs.State.{State, born, prepared, lower_of, upper_of, absorbed}
+use Rattle.region_table.specs.Table.{Kept}
 
 -- what is kept of each region
 abbrev pub Keeps : Type 0

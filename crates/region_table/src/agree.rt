@@ -1,16 +1,16 @@
 // Whether a table is that of a log.
 ghost use Rattle.std.specs.Bool.{Decides};
 ghost use Rattle.std.specs.Prelude.{◌≡◌, ◌<◌, ◌+◌, ℕ, Bool, true, false, None, length, IfOk, IfSome};
-ghost use Rattle.committed_log.specs.Applied.{IsClosed, is_ready, with_position};
+ghost use Rattle.committed_log.specs.Applied.{IsClosed, is_ready};
 ghost use Rattle.raft_apply.specs.Entries.{IsParsed};
 ghost use Rattle.region_table.specs.Agreeing.{below};
 ghost use Rattle.region_table.specs.Counting.{applied_in};
-ghost use Rattle.region_table.specs.Table.{IsTableAt, Agrees};
+ghost use Rattle.region_table.specs.Table.{IsTableAt, HasApplied, AtItsSet, Agrees};
 
 use crate::counting::is_applied;
 use crate::fault::ApplyError;
 use crate::laws::empty_tables_agree;
-use crate::same::{has_counted, same_regions};
+use crate::same::{same_counted, same_positions, same_regions};
 use crate::table::{RegionTable, Regions};
 use column_block::Memory;
 use committed_log::Logs;
@@ -21,8 +21,8 @@ use std::alloc::Global;
 fn apply_parsed(table: &mut RegionTable, logs: &Logs, parsed: &Parsed) -> Result<bool, Memory>
     requires parsed { IsParsed logs.now parsed.now }
     requires agrees { Agrees logs.now table.old }
-    ensures yes { IfOk result (λ b. b ≡ true → (A : ℕ → Bool) → IsTableAt logs.now A table.old → IsTableAt logs.now (with_position A parsed.now.position) table.new) }
-    ensures no { IfOk result (λ b. b ≡ false → (A : ℕ → Bool) → IsTableAt logs.now A table.old → is_ready logs.now A parsed.now.position ≡ false) }
+    ensures yes { IfOk result (λ b. b ≡ true → HasApplied logs.now parsed.now.position table.old table.new) }
+    ensures no { IfOk result (λ b. b ≡ false → AtItsSet logs.now table.old (λ A. is_ready logs.now A parsed.now.position ≡ false)) }
 {
     logs.told_lawful();
     match table.apply(logs, parsed) {
@@ -56,9 +56,9 @@ fn apply_next(
     }
 }
 
-// The table to which the entries are applied that these regions tell are applied, in the order of the
-// log. There is none where one of them isn't ready in its turn.
-fn applied_anew(
+/// The table to which the entries are applied that these regions tell are applied, in the order of the
+/// log. There is none where one of them isn't ready in its turn.
+pub fn applied_anew(
     alloc: Global,
     logs: &Logs,
     regions: &Regions,
@@ -84,10 +84,19 @@ impl RegionTable {
         requires { IsTableAt logs.now (applied_in logs.now self.now.regions) anew.now }
         ensures { Decides result (IsTableAt logs.now (applied_in logs.now self.now.regions) self.now) }
     {
-        // Give the proof that both have their regions in order.
+        let _logs = logs.len();
+        // Give the proof that both have their regions and their next entries in order.
         let _own = self.regions.len();
         let _other = anew.regions.len();
-        same_regions(&self.regions, &anew.regions) && has_counted(self.counted, anew.told(logs))
+        let _nexts = self.nexts.len();
+        let _others = anew.nexts.len();
+        if !same_regions(&self.regions, &anew.regions) {
+            return false;
+        }
+        if !same_counted(self.counted, anew.counted) {
+            return false;
+        }
+        same_positions(&self.nexts, &anew.nexts)
     }
 
     /// Whether the table is that of the log at some closed set of entries. Which these are its regions

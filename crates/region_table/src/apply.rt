@@ -1,18 +1,19 @@
 // Entries that are applied.
-ghost use Rattle.std.specs.Prelude.{◌≡◌, ◌⊎◌, ◌<◌, ◌≤◌, ℕ, Bool, true, false, length, slice_get, Some, OnOk, OnErr, IfErr};
-ghost use Rattle.log_codec.specs.declared.entry.Entry.{Entry};
-ghost use Rattle.committed_log.specs.Applied.{is_ready, with_position};
+ghost use Rattle.std.specs.Prelude.{◌≡◌, ◌<◌, ◌≤◌, ◌+◌, ℕ, Bool, false, Some, length, OnOk, OnErr, IfErr};
+ghost use Rattle.committed_log.specs.Applied.{with_position};
 ghost use Rattle.raft_apply.specs.Entries.{IsParsed};
-ghost use Rattle.region_table.specs.Applying.{apply_fault};
+ghost use Rattle.region_table.specs.Applying.{IsCause};
 ghost use Rattle.region_table.specs.Counting.{applied_in, IsFirstFrom};
+ghost use Rattle.region_table.specs.Nexts.{minus, nexts_after};
 ghost use Rattle.region_table.specs.Steps.{kept_after, CanBeDone};
-ghost use Rattle.region_table.specs.Table.{kept_in, IsTableAt, IsCounted, Agrees};
 ghost use Rattle.region_table.specs.declared.fault.ApplyError.TheVariants as fault;
+ghost use Rattle.region_table.specs.Table.{kept_in, next_in, IsCounted, IsReady, HasApplied, Agrees};
 
 use crate::counting::is_applied;
 use crate::fault::ApplyError;
+use crate::positions::{Added, add_both, child_next, own_next, take_back, take_out};
 use crate::step::step;
-use crate::table::{Counted, RegionTable, Regions};
+use crate::table::{Counted, Positions, RegionTable, Regions};
 use column_block::Memory;
 use committed_log::Logs;
 use raft_apply::Parsed;
@@ -52,7 +53,7 @@ fn count_one(logs: &Logs, regions: &Regions, counted: Counted, position: u64) ->
 }
 
 // Does to the regions what an entry does, or leaves them for want of memory.
-fn advance(alloc: Global, regions: &mut Regions, parsed: &Parsed) -> Result<(), Memory>
+fn change(alloc: Global, regions: &mut Regions, parsed: &Parsed) -> Result<(), Memory>
     requires { CanBeDone (kept_in regions.old.entries) parsed.now.region parsed.now.command }
     ensures ok { OnOk result ((q : ℕ) → kept_in regions.new.entries q ≡ kept_after (kept_in regions.old.entries) parsed.now.region parsed.now.index parsed.now.command q) }
     ensures err { OnErr result (regions.new.entries ≡ regions.old.entries) }
@@ -67,22 +68,76 @@ fn advance(alloc: Global, regions: &mut Regions, parsed: &Parsed) -> Result<(), 
     }
 }
 
+// Does so where the positions of the entries that come next were added: that of the entry is taken
+// out, or for want of memory those that were new.
+fn change_added(
+    alloc: Global,
+    regions: &mut Regions,
+    nexts: &mut Positions,
+    parsed: &Parsed,
+    new: Added,
+) -> Result<(), Memory>
+    requires { CanBeDone (kept_in regions.old.entries) parsed.now.region parsed.now.command }
+    ensures regions { OnOk result ((q : ℕ) → kept_in regions.new.entries q ≡ kept_after (kept_in regions.old.entries) parsed.now.region parsed.now.index parsed.now.command q) }
+    ensures nexts { OnOk result ((q : ℕ) → next_in nexts.new.entries q ≡ minus (Some parsed.now.position) (next_in nexts.old.entries) q) }
+    ensures err { OnErr result (regions.new.entries ≡ regions.old.entries) }
+    ensures back { OnErr result ((q : ℕ) → next_in nexts.new.entries q ≡ minus new.own (minus new.child (next_in nexts.old.entries)) q) }
+{
+    match change(alloc, regions, parsed) {
+        Ok(()) => {
+            take_out(nexts, Some(parsed.position));
+            Ok(())
+        }
+        Err(_) => {
+            take_back(nexts, new);
+            Err(Memory)
+        }
+    }
+}
+
+// Does to the regions and to the positions of the next entries what an entry does, or leaves both.
+fn advance(
+    alloc: Global,
+    logs: &Logs,
+    regions: &mut Regions,
+    nexts: &mut Positions,
+    parsed: &Parsed,
+) -> Result<(), Memory>
+    requires { CanBeDone (kept_in regions.old.entries) parsed.now.region parsed.now.command }
+    ensures regions { OnOk result ((q : ℕ) → kept_in regions.new.entries q ≡ kept_after (kept_in regions.old.entries) parsed.now.region parsed.now.index parsed.now.command q) }
+    ensures nexts { OnOk result ((q : ℕ) → next_in nexts.new.entries q ≡ nexts_after logs.now parsed.now.position parsed.now.region parsed.now.index parsed.now.command (next_in nexts.old.entries) q) }
+    ensures err { OnErr result (regions.new.entries ≡ regions.old.entries) }
+    ensures stay { OnErr result (nexts.new.entries ≡ nexts.old.entries) }
+{
+    let _before = nexts.len();
+    let own = own_next(logs, parsed.region, parsed.index, &parsed.command);
+    let child = child_next(logs, &parsed.command);
+    match add_both(nexts, own, child) {
+        Ok(new) => {
+            let done = change_added(alloc, regions, nexts, parsed, new);
+            let _after = nexts.len();
+            done
+        }
+        Err(_) => Err(Memory),
+    }
+}
+
 impl RegionTable {
     // Applies an entry that is ready.
     fn apply_ready(&mut self, logs: &Logs, parsed: &Parsed) -> Result<(), ApplyError>
         requires parsed { IsParsed logs.now parsed.now }
         requires agrees { Agrees logs.now self.old }
-        requires ready { (A : ℕ → Bool) → IsTableAt logs.now A self.old → is_ready logs.now A parsed.now.position ≡ true }
-        ensures table { OnOk result ((A : ℕ → Bool) → IsTableAt logs.now A self.old → IsTableAt logs.now (with_position A parsed.now.position) self.new) }
+        requires ready { IsReady logs.now self.old parsed.now.position }
+        ensures table { OnOk result (HasApplied logs.now parsed.now.position self.old self.new) }
         ensures memory { IfErr result (λ why. why ≡ fault.Memory) }
         ensures unchanged { OnErr result (self.new ≡ self.old) }
     {
         logs.told_lawful();
         let _end = logs.len();
-        let counted = self.told(logs);
-        match advance(self.alloc, &mut self.regions, parsed) {
+        let counted = self.counted;
+        match advance(self.alloc, logs, &mut self.regions, &mut self.nexts, parsed) {
             Ok(()) => {
-                self.counted = Some(count_one(logs, &self.regions, counted, parsed.position));
+                self.counted = count_one(logs, &self.regions, counted, parsed.position);
                 Ok(())
             }
             Err(_) => Err(ApplyError::Memory),
@@ -91,7 +146,7 @@ impl RegionTable {
 
     /// Applies an entry of the log: the table becomes that of the log with this entry applied too.
     /// `Done` exactly where it was applied before, `Early` exactly where one that it waits for wasn't;
-    /// `Memory` where memory runs out. After an error the table is as before.
+    /// `Memory` where it could be applied and memory runs out. After an error the table is as before.
     ///
     /// A region waits for the index before the entry's, a commit for the prepare of its source, and an
     /// entry that makes its region for all entries before it; the first of these that is behind is
@@ -99,9 +154,9 @@ impl RegionTable {
     pub fn apply(&mut self, logs: &Logs, parsed: &Parsed) -> Result<(), ApplyError>
         requires parsed { IsParsed logs.now parsed.now }
         requires agrees { Agrees logs.now self.old }
-        ensures ready { OnOk result ((A : ℕ → Bool) → IsTableAt logs.now A self.old → is_ready logs.now A parsed.now.position ≡ true) }
-        ensures table { OnOk result ((A : ℕ → Bool) → IsTableAt logs.now A self.old → IsTableAt logs.now (with_position A parsed.now.position) self.new) }
-        ensures cause { IfErr result (λ why. (why ≡ fault.Memory) ⊎ ((A : ℕ → Bool) → IsTableAt logs.now A self.old → (e : Entry) → slice_get logs.now.entries parsed.now.position ≡ Some e → apply_fault logs.now A parsed.now.position e ≡ Some why)) }
+        ensures ready { OnOk result (IsReady logs.now self.old parsed.now.position) }
+        ensures table { OnOk result (HasApplied logs.now parsed.now.position self.old self.new) }
+        ensures cause { IfErr result (IsCause logs.now self.old parsed.now.position) }
         ensures unchanged { OnErr result (self.new ≡ self.old) }
     {
         logs.told_lawful();

@@ -1,11 +1,9 @@
 // What an entry does to the replica's files.
-ghost use Rattle.std.specs.Prelude.{◌≡◌, ◌⊎◌, ℕ, Bool, true, slice_get, Some, IfOk, IfErr};
-ghost use Rattle.log_codec.specs.declared.entry.Entry.{Entry};
-ghost use Rattle.committed_log.specs.Applied.{is_ready};
+ghost use Rattle.std.specs.Prelude.{◌≡◌, IfOk, IfErr, OnOk};
 ghost use Rattle.raft_apply.specs.Entries.{IsParsed};
-ghost use Rattle.region_table.specs.Applying.{apply_fault};
+ghost use Rattle.region_table.specs.Applying.{IsCause};
 ghost use Rattle.region_table.specs.Effects.{adds_of, clears_of, IsEffect};
-ghost use Rattle.region_table.specs.Table.{kept_in, IsTableAt, Agrees};
+ghost use Rattle.region_table.specs.Table.{kept_in, IsReady, Agrees};
 ghost use Rattle.region_table.specs.declared.fault.ApplyError.TheVariants as fault;
 
 use crate::fault::ApplyError;
@@ -68,11 +66,12 @@ fn adds_of(
 
 impl RegionTable {
     // The effect of an entry that is ready.
-    fn effect_ready(&self, logs: &Logs, parsed: &Parsed) -> Result<Effect, Memory>
+    fn effect_ready(&self, logs: &Logs, parsed: &Parsed) -> Result<Effect, ApplyError>
         requires parsed { IsParsed logs.now parsed.now }
         requires agrees { Agrees logs.now self.now }
-        requires ready { (A : ℕ → Bool) → IsTableAt logs.now A self.now → is_ready logs.now A parsed.now.position ≡ true }
-        ensures { IfOk result (IsEffect logs.now parsed.now) }
+        requires ready { IsReady logs.now self.now parsed.now.position }
+        ensures effect { IfOk result (IsEffect logs.now parsed.now) }
+        ensures memory { IfErr result (λ why. why ≡ fault.Memory) }
     {
         logs.told_lawful();
         let (id, index) = (parsed.region, parsed.index);
@@ -91,25 +90,24 @@ impl RegionTable {
                 clears,
                 adds,
             }),
-            Err(_) => Err(Memory),
+            Err(_) => Err(ApplyError::Memory),
         }
     }
 
-    /// What the entry does to the files where it is applied to this table, which stays. The errors are
-    /// those of `apply`.
+    /// What the entry does to the files where it is applied to this table, which stays: told exactly
+    /// where the entry is ready, as the log has it. The errors are those of `apply`: `Memory` comes
+    /// only where the entry could be applied, and never in place of `Done` or `Early`.
     pub fn effect(&self, logs: &Logs, parsed: &Parsed) -> Result<Effect, ApplyError>
         requires parsed { IsParsed logs.now parsed.now }
         requires agrees { Agrees logs.now self.now }
+        ensures ready { OnOk result (IsReady logs.now self.now parsed.now.position) }
         ensures effect { IfOk result (IsEffect logs.now parsed.now) }
-        ensures cause { IfErr result (λ why. (why ≡ fault.Memory) ⊎ ((A : ℕ → Bool) → IsTableAt logs.now A self.now → (e : Entry) → slice_get logs.now.entries parsed.now.position ≡ Some e → apply_fault logs.now A parsed.now.position e ≡ Some why)) }
+        ensures cause { IfErr result (IsCause logs.now self.now parsed.now.position) }
     {
         logs.told_lawful();
         match self.find_fault(logs, parsed.position) {
             Some(why) => Err(why),
-            None => match self.effect_ready(logs, parsed) {
-                Ok(effect) => Ok(effect),
-                Err(_) => Err(ApplyError::Memory),
-            },
+            None => self.effect_ready(logs, parsed),
         }
     }
 }

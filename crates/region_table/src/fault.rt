@@ -6,7 +6,7 @@ ghost use Rattle.committed_log.specs.Regions.{region, index_of, makes_region};
 ghost use Rattle.region_table.specs.Applying.{behind, own_behind, source_behind, all_behind, fault_by, apply_fault};
 ghost use Rattle.region_table.specs.Counting.{applied_in};
 ghost use Rattle.region_table.specs.Faults.{prepare_at_end};
-ghost use Rattle.region_table.specs.Table.{state_in, IsTableAt};
+ghost use Rattle.region_table.specs.Table.{state_in, AtItsSet};
 
 use crate::counting::has_reached;
 use crate::table::{RegionTable, Regions, index_of, state_of};
@@ -142,9 +142,9 @@ impl RegionTable {
     /// Why the entry at a position can't be applied, if it can't.
     pub(crate) fn find_fault(&self, logs: &Logs, position: u64) -> Option<ApplyError>
         requires { position < length logs.now.entries }
-        ensures { (A : ℕ → Bool) → IsTableAt logs.now A self.now → (e : Entry) → slice_get logs.now.entries position ≡ Some e → result ≡ apply_fault logs.now A position e }
+        ensures { AtItsSet logs.now self.now (λ A. (e : Entry) → slice_get logs.now.entries position ≡ Some e → result ≡ apply_fault logs.now A position e) }
     {
         logs.told_lawful();
-        fault_by(logs, &self.regions, self.told(logs).first, position)
+        fault_by(logs, &self.regions, self.counted.first, position)
     }
 }

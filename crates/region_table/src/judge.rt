@@ -1,9 +1,9 @@
 // Why a read is refused.
-ghost use Rattle.std.specs.Prelude.{◌≡◌, ℕ, Bool};
+ghost use Rattle.std.specs.Prelude.{◌≡◌};
 ghost use Rattle.std.specs.Option.{option_or};
 ghost use Rattle.committed_log.specs.Replies.{refused, same_epoch, unsettled_refusal};
 ghost use Rattle.region_table.specs.Judging.{locked, refused_there, refused_kept, refused_list};
-ghost use Rattle.region_table.specs.Table.{IsTableAt, kept_in};
+ghost use Rattle.region_table.specs.Table.{AtItsSet, kept_in};
 
 use crate::table::{RegionTable, Regions};
 use committed_log::Logs;
@@ -155,7 +155,7 @@ impl RegionTable {
     /// the way. It takes no memory, and goes over the locks of the asked regions up to the first in
     /// the way.
     pub fn judge(&self, logs: &Logs, ask: &Ask, safe_point: Ts, mark: u64) -> Option<Refusal>
-        ensures { (A : ℕ → Bool) → IsTableAt logs.now A self.now → result ≡ refused logs.now ask.now A safe_point mark }
+        ensures { AtItsSet logs.now self.now (λ A. result ≡ refused logs.now ask.now A safe_point mark) }
     {
         logs.told_lawful();
         if ask.ts() < safe_point {

@@ -1,6 +1,9 @@
 // The regions that are there, one after the other.
 ghost use Rattle.std.specs.Prelude.{◌≡◌, filter};
-ghost use Rattle.region_table.specs.Live.{is_above, asked_kept, first_asked, next_there};
+ghost use Rattle.std.specs.List.Sorted.{IsStrictlySortedBy};
+ghost use Rattle.std.specs.Map.{keys_of};
+ghost use Rattle.std.specs.Ordering.{nat_cmp};
+ghost use Rattle.region_table.specs.Live.{is_above, asked_kept, first_asked, next_there, IsLeastThere};
 
 use crate::table::{RegionTable, Regions};
 use flash_types::{AskRegion, RegionId};
@@ -47,8 +50,12 @@ impl RegionTable {
     /// The live or prepared region with the least number above that of `region`, or of all for none,
     /// with its epoch and its index. None exactly where there is none.
     pub fn live_after(&self, region: Option<RegionId>) -> Option<AskRegion>
-        ensures { result ≡ next_there self.now.regions region }
+        ensures ordered { IsStrictlySortedBy nat_cmp (keys_of self.now.regions) }
+        ensures first { result ≡ next_there self.now.regions region }
+        ensures least { IsLeastThere self.now.regions region result }
     {
+        // Give the proof that the regions are in order.
+        let _regions = self.regions.len();
         first_above(&self.regions, region)
     }
 }

@@ -1,15 +1,14 @@
 // The entry that comes next.
-ghost use Rattle.std.specs.Prelude.{◌≡◌, ◌<◌, ◌≤◌, ◌%◌, ◌==◌, ℕ, Bool, length};
-ghost use Rattle.region_table.specs.Applying.{next_ready};
-ghost use Rattle.region_table.specs.Nexts.{lesser, ready_in, passes_in, next_kept, if_passes, least_next};
-ghost use Rattle.region_table.specs.Table.{IsTableAt};
+ghost use Rattle.std.specs.Prelude.{◌≡◌, ◌<◌, ◌≤◌, ℕ, Bool, None, length, filter, nat_lt, IfSome};
+ghost use Rattle.region_table.specs.Applying.{next_ready, is_in_part, IsNextReady, AreApplied};
+ghost use Rattle.region_table.specs.Nexts.{ready_in, passes_in, if_passes, first_below};
+ghost use Rattle.region_table.specs.Table.{AtItsSet};
 
 use crate::fault::fault_by;
-use crate::table::{RegionTable, Regions};
+use crate::table::{Positions, RegionTable, Regions};
 use committed_log::Logs;
-use flash_types::RegionId;
 use log_codec::Entry;
-use region_file::Entry as Kept;
+use std::collections::btree_map::Range;
 
 /// A part of the regions by their numbers, and a bound on positions.
 #[derive(Clone, Copy)]
@@ -19,19 +18,9 @@ struct Wanted {
     below: u64,
 }
 
-fn lesser(a: Option<u64>, b: Option<u64>) -> Option<u64>
-    ensures { result ≡ lesser a b }
-{
-    match (a, b) {
-        (None, b) => b,
-        (Some(a), None) => Some(a),
-        (Some(a), Some(b)) => if a <= b { Some(a) } else { Some(b) },
-    }
-}
-
 fn is_in_part(wanted: Wanted, entry: &Entry) -> bool
     requires { 1 ≤ wanted.parts }
-    ensures { result ≡ (entry.now.region % wanted.parts == wanted.part) }
+    ensures { result ≡ is_in_part wanted.part wanted.parts entry.now }
 {
     entry.region % wanted.parts == wanted.part
 }
@@ -46,7 +35,7 @@ fn is_ready(logs: &Logs, regions: &Regions, first: u64, position: u64) -> bool
 
 fn passes(logs: &Logs, regions: &Regions, first: u64, wanted: Wanted, position: u64) -> bool
     requires { 1 ≤ wanted.parts }
-    ensures { result ≡ passes_in logs.now regions.now.entries first (λ e. e.region % wanted.parts == wanted.part) wanted.below position }
+    ensures { result ≡ passes_in logs.now regions.now.entries first (is_in_part wanted.part wanted.parts) wanted.below position }
 {
     if position >= wanted.below || position >= logs.len() {
         return false;
@@ -54,61 +43,58 @@ fn passes(logs: &Logs, regions: &Regions, first: u64, wanted: Wanted, position: 
     is_ready(logs, regions, first, position) && is_in_part(wanted, logs.entry(position))
 }
 
-fn next_kept(logs: &Logs, id: RegionId, kept: &Kept) -> Option<u64>
-    ensures { result ≡ next_kept logs.now (id, kept.now) }
-{
-    match kept {
-        Kept::Gone { .. } => None,
-        Kept::There { region } => logs.next_of(id, region.index()),
-    }
-}
-
 fn if_passes(
     logs: &Logs,
     regions: &Regions,
     first: u64,
     wanted: Wanted,
-    next: Option<u64>,
+    position: u64,
 ) -> Option<u64>
     requires { 1 ≤ wanted.parts }
-    ensures { result ≡ if_passes (passes_in logs.now regions.now.entries first (λ e. e.region % wanted.parts == wanted.part) wanted.below) next }
+    ensures { result ≡ if_passes (passes_in logs.now regions.now.entries first (is_in_part wanted.part wanted.parts) wanted.below) position }
 {
-    match next {
-        None => None,
-        Some(position) => if passes(logs, regions, first, wanted, position) {
-            Some(position)
-        } else {
-            None
-        },
+    if passes(logs, regions, first, wanted, position) {
+        Some(position)
+    } else {
+        None
     }
 }
 
-fn least_next(logs: &Logs, regions: &Regions, first: u64, wanted: Wanted) -> Option<u64>
-    requires { 1 ≤ wanted.parts }
-    ensures { result ≡ least_next logs.now (passes_in logs.now regions.now.entries first (λ e. e.region % wanted.parts == wanted.part) wanted.below) regions.now.entries }
+// The positions below a bound.
+fn below(positions: &Positions, bound: u64) -> Range<'_, u64, ()>
+    ensures { result ≡ filter (λ e. nat_lt e.0 bound) positions.now.entries }
 {
-    let mut least = None;
-    for (id, kept) in regions.iter() {
-        let next = next_kept(logs, *id, kept);
-        least = lesser(least, if_passes(logs, regions, first, wanted, next));
+    positions.range(..bound)
+}
+
+// The least of the next entries that passes.
+fn first_passing(
+    logs: &Logs,
+    regions: &Regions,
+    nexts: &Positions,
+    first: u64,
+    wanted: Wanted,
+) -> Option<u64>
+    requires { 1 ≤ wanted.parts }
+    ensures { result ≡ first_below (passes_in logs.now regions.now.entries first (is_in_part wanted.part wanted.parts) wanted.below) wanted.below nexts.now.entries }
+{
+    for (position, _) in below(nexts, wanted.below) {
+        if let Some(found) = if_passes(logs, regions, first, wanted, *position) {
+            return Some(found);
+        }
     }
-    least
+    None
 }
 
 impl RegionTable {
-    /// The least position below `below` whose entry can be applied and is of a region whose number
-    /// modulo `parts` is `part`; where there is none, the least position below `below` whose entry can
-    /// be applied. None exactly where every entry below `below` is applied.
-    ///
-    /// It takes constant time where that is the first entry that isn't applied, and else looks at each
-    /// region once. (A table that was read from a file and had no entry applied since goes over the
-    /// log.) It takes no memory.
-    pub fn next_ready(&self, logs: &Logs, part: u32, parts: u32, below: u64) -> Option<u64>
+    fn find_next(&self, logs: &Logs, part: u32, parts: u32, below: u64) -> Option<u64>
         requires { 1 ≤ parts }
-        ensures { (A : ℕ → Bool) → IsTableAt logs.now A self.now → result ≡ next_ready logs.now A part parts below }
+        ensures { AtItsSet logs.now self.now (λ A. result ≡ next_ready logs.now A part parts below) }
     {
         logs.told_lawful();
-        let first = self.told(logs).first;
+        // Give the proof that the next entries are in order.
+        let _nexts = self.nexts.len();
+        let first = self.counted.first;
         if first >= below || first >= logs.len() {
             return None;
         }
@@ -116,9 +102,27 @@ impl RegionTable {
         if is_in_part(wanted, logs.entry(first)) {
             return Some(first);
         }
-        match least_next(logs, &self.regions, first, wanted) {
+        match first_passing(logs, &self.regions, &self.nexts, first, wanted) {
             Some(position) => Some(position),
             None => Some(first),
         }
+    }
+
+    /// The least position below `below` whose entry can be applied and is of a region whose number
+    /// modulo `parts` is `part`; where there is none, the least position below `below` whose entry can
+    /// be applied. None exactly where every entry below `below` is applied.
+    ///
+    /// It takes constant time where that is the first entry that isn't applied. Else it goes over the
+    /// next entries of the regions that are there, from the least on, up to the one that it answers. It
+    /// takes no memory.
+    pub fn next_ready(&self, logs: &Logs, part: u32, parts: u32, below: u64) -> Option<u64>
+        requires { 1 ≤ parts }
+        ensures is { AtItsSet logs.now self.now (λ A. result ≡ next_ready logs.now A part parts below) }
+        ensures ready { AtItsSet logs.now self.now (λ A. IfSome result (IsNextReady logs.now A part parts below)) }
+        ensures none { AtItsSet logs.now self.now (λ A. result ≡ None → AreApplied logs.now A below) }
+        ensures left { AtItsSet logs.now self.now (λ A. AreApplied logs.now A below → result ≡ None) }
+    {
+        logs.told_lawful();
+        self.find_next(logs, part, parts, below)
     }
 }

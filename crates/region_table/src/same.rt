@@ -1,9 +1,8 @@
 // Whether two tables have the same.
 ghost use Rattle.std.specs.Bool.{Decides};
 ghost use Rattle.std.specs.Prelude.{◌≡◌};
-ghost use Rattle.region_table.specs.Agreeing.{HasCounted};
 
-use crate::table::{Counted, Regions};
+use crate::table::{Counted, Positions, Regions};
 use committed_log::{Descriptor, Lock};
 use flash_types::{Epoch, Handle, HandleRange, RegionId, Ts};
 use log_codec::OpBytes;
@@ -127,12 +126,32 @@ pub fn same_regions(a: &Regions, b: &Regions) -> bool
     others.next().is_none()
 }
 
-/// Whether a table counted this, if it counted anything.
-pub fn has_counted(counted: Option<Counted>, is: Counted) -> bool
-    ensures { Decides result (HasCounted counted is) }
+/// Whether two tables have counted the same.
+pub fn same_counted(a: Counted, b: Counted) -> bool
+    ensures { Decides result (a ≡ b) }
 {
-    match counted {
-        None => true,
-        Some(counted) => counted == is,
+    a.count == b.count && a.first == b.first
+}
+
+// Whether two positions are the same.
+fn same_next(a: u64, there: &(), b: u64, that: &()) -> bool
+    ensures { Decides result ((a ≡ b) × (there.now ≡ that.now)) }
+{
+    a == b && there == that
+}
+
+/// Whether two maps have the same positions.
+pub fn same_positions(a: &Positions, b: &Positions) -> bool
+    ensures { Decides result (a.now.entries ≡ b.now.entries) }
+{
+    let mut others = b.iter();
+    for (position, there) in a.iter() {
+        match others.next() {
+            None => return false,
+            Some((other, that)) => if !same_next(*position, there, *other, that) {
+                return false;
+            }
+        }
     }
+    others.next().is_none()
 }

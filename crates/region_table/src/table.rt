@@ -24,13 +24,17 @@ pub struct Counted {
     pub first: u64,
 }
 
+/// Positions of entries.
+pub type Positions = BTreeMap<u64, ()>;
+
 /// The regions of a replica, as its applied entries leave them. Contracts see those that are born in
-/// the order of their numbers, and what was counted: a table that was read from a file knows no log,
-/// and the first entry that is applied to it has it counted.
+/// the order of their numbers, what is counted of the log, and the positions of the entries that come
+/// next for the regions that are there, in order.
 #[derive(Drop)]
 pub struct RegionTable {
     pub(crate) regions: Regions,
-    pub(crate) counted: Option<Counted>,
+    pub(crate) counted: Counted,
+    pub(crate) nexts: Positions,
     pub(crate) alloc: Global,
 }
 
@@ -39,7 +43,7 @@ impl Model for RegionTable {
 
     ghost Value = { Table };
 
-    ghost view = { λ t. record { regions = t.regions.entries; counted = t.counted } };
+    ghost view = { λ t. record { regions = t.regions.entries; counted = t.counted; nexts = t.nexts.entries } };
 }
 
 // The state of a region that is there.
@@ -104,7 +108,8 @@ impl RegionTable {
     {
         RegionTable {
             regions: BTreeMap::new(alloc),
-            counted: Some(Counted { count: 0, first: 0 }),
+            counted: Counted { count: 0, first: 0 },
+            nexts: BTreeMap::new(alloc),
             alloc,
         }
     }

@@ -6,8 +6,8 @@ use Rattle.region_table.proofs.Effected.{adds_is, clears_is}
 use Rattle.region_table.proofs.Parsed.{entry_of, moved}
 use Rattle.region_table.proofs.table.RegionTable.effect_ready.Goals as goal
 
-pub returns-in-Ok : goal.returns-in-Ok
-returns-in-Ok c =
+pub returns-in-Ok-clause-effect : goal.returns-in-Ok-clause-effect
+returns-in-Ok-clause-effect c =
     let log = c.args.logs.now in
     let x = c.args.parsed.now in
     let p = c.args.parsed.now.position in

@@ -1,39 +1,16 @@
-use Rattle.std.proofs.Common.{◌∙◌, sym, ap, subst, ◌<◌, None, Some, false, length, arith}
-use Rattle.std.specs.Prelude.{◌==◌, ◌%◌}
-use Rattle.region_table.specs.Table.{IsTableAt, Table}
-use Rattle.region_table.proofs.Nexts.{none_next, first_next, some_next, else_next}
+use Rattle.std.proofs.Common.{◌≡◌, ◌∙◌, refl, sym, ℕ, Option, Some, None, IfSome}
+use Rattle.region_table.proofs.Nexts.{next_is_ready, none_is_left, all_are_left}
 use Rattle.region_table.proofs.table.RegionTable.next_ready.Goals as goal
-use Rattle.region_table.proofs.table.RegionTable.next_ready.Goals.{then-first-below-via-then-first-below, then-first-below-via-else-first-below+then-first-len}
 
-pub returns-then-first-below : goal.returns-then-first-below
-returns-then-first-below c = λ A is. none_next c.args.logs.now c.told_lawful.ensures A c.args.self.now is c.told-first.result (c.told-first.ensures A is) c.args.part c.args.parts c.args.below (λ both. elim c.then-first-below.branch as (λ _. ⊥) [
-  | then-first-below-via-then-first-below w ↦ (let h = w.if-first-below.true in let b = both.0 in absurd (omega (arith, h, b)))
-  | then-first-below-via-else-first-below+then-first-len w ↦ (let h = w.if-first-len.true in let l = w.len.ensures in let b = both.1 in absurd (omega (arith, h, l, b)))
-])
+if_some : (o : Option ℕ) (P : ℕ → Type 0) → ((m : ℕ) → o ≡ Some m → P m) → IfSome o P
+if_some None P each = tt
+if_some (Some m) P each = each m refl
 
-pub returns-then-is_in_part : goal.returns-then-is_in_part
-returns-then-is_in_part c = λ A is.
-    let low : c.told-first.result.first < c.args.below = c.if-first-below.false in
-    let within : c.told-first.result.first < length c.args.logs.now.entries = (let h = c.if-first-len.false in let l = c.len.ensures in omega (arith, h, l)) in
-    first_next c.args.logs.now c.told_lawful.ensures A c.args.self.now is c.told-first.result (c.told-first.ensures A is) c.args.part c.args.parts c.args.below low within
-    (ap (λ o. elim o [ None ↦ false | Some x ↦ x.region % c.args.parts == c.args.part ]) c.entry.ensures ∙ sym c.is_in_part.ensures ∙ c.if-is_in_part.true)
+pub returns-clause-ready : goal.returns-clause-ready
+returns-clause-ready c = λ A is. if_some c.find_next.result _ (λ m some. next_is_ready c.args.logs.now c.told_lawful.ensures A c.args.self.now is c.args.part c.args.parts c.args.below m (sym (c.find_next.ensures A is) ∙ some))
 
-pub returns-in-Some : goal.returns-in-Some
-returns-in-Some c = λ A is.
-    let t : Table = record { regions = c.self.inside.regions.entries; counted = c.self.inside.counted } in
-    let at = subst (IsTableAt c.args.logs.now A) (sym c.self.view_is) is in
-    let low : c.told-first.result.first < c.args.below = c.if-first-below.false in
-    let within : c.told-first.result.first < length c.args.logs.now.entries = (let h = c.if-first-len.false in let l = c.len.ensures in omega (arith, h, l)) in
-    some_next c.args.logs.now c.told_lawful.ensures A t at c.told-first.result (c.told-first.ensures A is) c.args.part c.args.parts c.args.below low within
-    (ap (λ o. elim o [ None ↦ false | Some x ↦ x.region % c.args.parts == c.args.part ]) c.entry.ensures ∙ sym c.is_in_part.ensures ∙ c.if-is_in_part.false)
-    c.in-Some.position (sym c.least_next.ensures ∙ c.in-Some.is)
+pub returns-clause-none : goal.returns-clause-none
+returns-clause-none c = λ A is none. none_is_left c.args.logs.now c.told_lawful.ensures A c.args.self.now is c.args.part c.args.parts c.args.below (sym (c.find_next.ensures A is) ∙ none)
 
-pub returns-in-None : goal.returns-in-None
-returns-in-None c = λ A is.
-    let t : Table = record { regions = c.self.inside.regions.entries; counted = c.self.inside.counted } in
-    let at = subst (IsTableAt c.args.logs.now A) (sym c.self.view_is) is in
-    let low : c.told-first.result.first < c.args.below = c.if-first-below.false in
-    let within : c.told-first.result.first < length c.args.logs.now.entries = (let h = c.if-first-len.false in let l = c.len.ensures in omega (arith, h, l)) in
-    else_next c.args.logs.now c.told_lawful.ensures A t at c.told-first.result (c.told-first.ensures A is) c.args.part c.args.parts c.args.below low within
-    (ap (λ o. elim o [ None ↦ false | Some x ↦ x.region % c.args.parts == c.args.part ]) c.entry.ensures ∙ sym c.is_in_part.ensures ∙ c.if-is_in_part.false)
-    (sym c.least_next.ensures ∙ c.in-None.is)
+pub returns-clause-left : goal.returns-clause-left
+returns-clause-left c = λ A is all. c.find_next.ensures A is ∙ sym (all_are_left c.args.logs.now c.told_lawful.ensures A c.args.self.now is c.args.part c.args.parts c.args.below all)
