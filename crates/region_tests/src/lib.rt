@@ -1,9 +1,7 @@
-//! Tests of a region, of the regions' file and of the table of regions.
+//! Tests of a region and of the regions' file.
 #![tactic(auto)]
 
 #[cfg(test)]
 mod files;
 #[cfg(test)]
 mod region;
-#[cfg(test)]
-mod table;
