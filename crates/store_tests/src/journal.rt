@@ -9,7 +9,7 @@ use manifest_form::{Edit, root_of};
 use std::alloc::{AllocError, Global};
 use std::test::*;
 
-pub fn schema(alloc: Global) -> Result<Schema, AllocError> {
+fn schema(alloc: Global) -> Result<Schema, AllocError> {
     let column = Column {
         id: 1,
         kind: Kind::Int,
@@ -22,7 +22,7 @@ pub fn schema(alloc: Global) -> Result<Schema, AllocError> {
 }
 
 // Commits a safe point.
-pub fn point<D: Disk>(manifest: &mut Manifest, disk: &mut D, ts: u64) -> Result<(), CommitError>
+fn point<D: Disk>(manifest: &mut Manifest, disk: &mut D, ts: u64) -> Result<(), CommitError>
     requires steadied { manifest.old.steadied ≡ true }
     requires kept { IsKept (D.may_leave disk.old) manifest.old }
     ensures steadied { manifest.new.steadied ≡ true }
@@ -32,7 +32,7 @@ pub fn point<D: Disk>(manifest: &mut Manifest, disk: &mut D, ts: u64) -> Result<
 }
 
 // Rolls a store that has numbers left.
-pub fn rolled<D: Disk>(manifest: &mut Manifest, disk: &mut D) -> Result<(), CommitError>
+fn rolled<D: Disk>(manifest: &mut Manifest, disk: &mut D) -> Result<(), CommitError>
     requires steadied { manifest.old.steadied ≡ true }
     requires kept { IsKept (D.may_leave disk.old) manifest.old }
     ensures steadied { OnOk result (manifest.new.steadied ≡ true) }
@@ -96,7 +96,7 @@ fn found<D: Disk>(alloc: Global, disk: &mut D) -> u64 {
 }
 
 // Makes a store, commits the safe point 7, and rolls where it is asked to.
-pub fn seven<D: Disk>(alloc: Global, disk: &mut D, rolls: bool) -> Result<(), CommitError>
+fn seven<D: Disk>(alloc: Global, disk: &mut D, rolls: bool) -> Result<(), CommitError>
     requires new { D.tells → IsNew (D.files disk.old) }
 {
     let schema = schema(alloc)?;
@@ -109,7 +109,7 @@ pub fn seven<D: Disk>(alloc: Global, disk: &mut D, rolls: bool) -> Result<(), Co
 }
 
 // The safe point that an opening finds.
-pub fn safe_point<D: Disk>(alloc: Global, disk: &mut D) -> Option<u64> {
+fn safe_point<D: Disk>(alloc: Global, disk: &mut D) -> Option<u64> {
     match open(alloc, disk) {
         Ok(Some(manifest)) => Some(manifest.state().safe_point),
         _ => None,

@@ -3,5 +3,3 @@
 
 #[cfg(test)]
 mod journal;
-#[cfg(test)]
-mod opening;
