@@ -8,10 +8,9 @@ use Rattle.std.specs.declared.cmp.Ordering.TheVariants.{Less, Equal, Greater}
 use Rattle.std.specs.Ordering.{match_ordering, int_cmp}
 use Rattle.std.specs.BTreeMap.{insert_entry, is_at}
 use Rattle.std.specs.Map.{lookup, remove_entry}
-use Rattle.flash_types.specs.Ranges.{holds, is_below}
+use Rattle.flash_types.specs.Ranges.{holds, is_below, joined, touch}
 use Rattle.flash_types.specs.declared.range.HandleRange.{HandleRange}
-use Rattle.committed_log.specs.Admission.{touch}
-use Rattle.committed_log.specs.Regions.{joined, merged, lower_part, upper_part}
+use Rattle.committed_log.specs.Regions.{merged, lower_part, upper_part}
 use Rattle.committed_log.specs.Store.{value_cmp}
 use Rattle.committed_log.specs.declared.region.Descriptor.{Descriptor}
 use Rattle.committed_log.specs.declared.store.Lock.{Lock}

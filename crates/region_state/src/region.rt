@@ -1,7 +1,6 @@
 // One region of the replica.
 ghost use Rattle.std.specs.Prelude.{◌≡◌, ◌<◌, ◌^◌, length, option_map, slice_get, Some, IfOk, OnOk, OnErr, IfErr, true, int_lt};
-ghost use Rattle.flash_types.specs.Ranges.{holds, is_below};
-ghost use Rattle.committed_log.specs.Admission.{touch};
+ghost use Rattle.flash_types.specs.Ranges.{holds, is_below, touch};
 ghost use Rattle.std.specs.BTreeMap.{IsOrdered};
 ghost use Rattle.std.specs.List.Sorted.{IsStrictlySortedBy};
 ghost use Rattle.std.specs.Map.{keys_of};

@@ -3,14 +3,14 @@ use Rattle.std.proofs.Common.{◌≡◌, ◌≢◌, ◌∙◌, refl, sym, ap, su
 use Rattle.std.specs.Ordering.{int_cmp}
 use Rattle.std.specs.Cmp.{int_cmp_total}
 use Rattle.std.proofs.lemmas.Map.Lookups.{exact_signed}
-use Rattle.flash_types.specs.Ranges.{holds, is_below}
+use Rattle.flash_types.specs.Ranges.{holds, is_below, joined, touch}
 use Rattle.log_codec.specs.declared.entry.Body.TheVariants as body
 use Rattle.log_codec.specs.declared.entry.Entry.{Entry}
-use Rattle.committed_log.specs.Admission.{own_fault, other_fault, range_fault, state_of, is_live, is_prepared_for, touch}
+use Rattle.committed_log.specs.Admission.{own_fault, other_fault, range_fault, state_of, is_live, is_prepared_for}
 use Rattle.committed_log.specs.Lawful.{IsLawful}
 use Rattle.committed_log.specs.Log.{Log, at}
 use Rattle.committed_log.specs.Owned.{IsFilled}
-use Rattle.committed_log.specs.Regions.{region, range_of, regions_after, with_region, after_merge, joined, merged}
+use Rattle.committed_log.specs.Regions.{region, range_of, regions_after, with_region, after_merge, merged}
 use Rattle.committed_log.specs.Store.{Store, families_after, value_cmp}
 use Rattle.committed_log.specs.declared.region.Descriptor.{Descriptor}
 use Rattle.committed_log.specs.declared.region.Region.{Region}

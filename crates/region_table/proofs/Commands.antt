@@ -1,7 +1,7 @@
 -- What an entry does to a table is what it does to the row store.
 use Rattle.std.proofs.Common.{◌≡◌, ◌≢◌, inl, inr, ◌∙◌, refl, sym, ap, subst, ℕ, suc, ℤ, true, false, true≢false, ◌||◌, List, [], Option, Some, None, slice_get, int_lt}
 use Rattle.std.specs.Prelude.{◌==◌}
-use Rattle.flash_types.specs.Ranges.{holds}
+use Rattle.flash_types.specs.Ranges.{holds, touch}
 use Rattle.flash_types.specs.declared.range.HandleRange.{HandleRange}
 use Rattle.log_codec.specs.declared.entry.Body.{Body}
 use Rattle.log_codec.specs.declared.entry.Body.TheVariants as body
@@ -10,7 +10,7 @@ use Rattle.log_codec.specs.declared.entry.Op.{Op}
 use Rattle.committed_log.specs.declared.region.Descriptor.{Descriptor}
 use Rattle.committed_log.specs.declared.region.Region.{Region}
 use Rattle.committed_log.specs.declared.region.Region.TheVariants.{Unborn, Live, Prepared, Gone}
-use Rattle.committed_log.specs.Admission.{other_fault, range_fault, is_unborn, is_prepared_for, touch}
+use Rattle.committed_log.specs.Admission.{other_fault, range_fault, is_unborn, is_prepared_for}
 use Rattle.committed_log.specs.declared.store.Lock.{Lock}
 use Rattle.committed_log.specs.Lawful.{IsLawful}
 use Rattle.committed_log.specs.Log.{Log, at}

@@ -11,12 +11,12 @@ use Rattle.committed_log.specs.Applied.{acts_at, applied, IsClosed, is_ready}
 use Rattle.committed_log.specs.Lawful.{IsLawful}
 use Rattle.committed_log.specs.Log.{Log, at}
 use Rattle.committed_log.specs.Regions.{region, range_of, acts_on, also_acted, makes_region}
-use Rattle.committed_log.specs.Store.{Store}
+use Rattle.committed_log.specs.Store.{Store, clearing_of}
 use Rattle.committed_log.proofs.Closed.{same_is}
 use Rattle.committed_log.proofs.Entries.{head_next}
 use Rattle.committed_log.proofs.Faults.{IsFine, or_first}
 use Rattle.committed_log.proofs.Ranks.{of_unborn, no_entry}
-use Rattle.good_replica.specs.Effect.{added, clearing, clearing_of}
+use Rattle.good_replica.specs.Effect.{added, clearing}
 use Rattle.raft_apply.specs.Entries.{command_of, changes}
 use Rattle.region_table.specs.Effects.{adds_of, clears_of, range_kept, versions_kept}
 use Rattle.region_table.specs.Steps.{Keeps}

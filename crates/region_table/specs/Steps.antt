@@ -4,9 +4,8 @@ use Rattle.std.specs.Prelude.{List, ◌≡◌, ◌≢◌, ℕ, ℤ, ◌<◌, ◌
 use Rattle.std.specs.BTreeMap.{is_at}
 use Rattle.std.specs.List.{list_all}
 use Rattle.std.specs.Ordering.{nat_cmp}
-use Rattle.flash_types.specs.Ranges.{holds, is_below}
+use Rattle.flash_types.specs.Ranges.{holds, is_below, touch}
 use Rattle.flash_types.specs.declared.Epoch.{Epoch}
-use Rattle.committed_log.specs.Admission.{touch}
 use Rattle.raft_apply.specs.declared.command.Command.{Command}
 use Rattle.raft_apply.specs.declared.command.Command.TheVariants as command
 use Rattle.region_file.specs.declared.entry.Entry.TheVariants as kept

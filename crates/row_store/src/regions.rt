@@ -1,8 +1,9 @@
 // The regions after an entry.
 ghost use Rattle.std.specs.Prelude.{◌≡◌, OnOk, IfSome};
+ghost use Rattle.flash_types.specs.Ranges.{ends_at, joined};
 ghost use Rattle.committed_log.specs.declared.region.Region.TheVariants as live;
 ghost use Rattle.log_codec.specs.declared.entry.Body.TheVariants as body;
-ghost use Rattle.committed_log.specs.Regions.{region, range_of, index_of, acts_on, makes_region, raised, lower_part, upper_part, ends_at, joined, merged, with_region, born, regions_after, live_after, born_after, after_merge};
+ghost use Rattle.committed_log.specs.Regions.{region, range_of, index_of, acts_on, makes_region, raised, lower_part, upper_part, merged, with_region, born, regions_after, live_after, born_after, after_merge};
 
 use crate::Stop;
 use crate::sorted::{entry_at, put_entry};

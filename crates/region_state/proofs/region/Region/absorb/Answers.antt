@@ -1,6 +1,5 @@
 use Rattle.std.proofs.Common.{◌≡◌, sym, subst, true}
-use Rattle.flash_types.specs.Ranges.{is_below}
-use Rattle.committed_log.specs.Admission.{touch}
+use Rattle.flash_types.specs.Ranges.{is_below, touch}
 use Rattle.region_state.specs.State.{State}
 use Rattle.region_state.proofs.Lying.{values_apart, locks_apart, values_apart_back, locks_apart_back, united_within}
 use Rattle.region_state.proofs.region.Region.absorb.Goals as goal
