@@ -1,6 +1,8 @@
 pub mod Fits
 pub mod OneRegion
 pub mod ManyRegions
+pub mod Records
+pub mod Indexes
 pub mod OneFile
 pub mod Sets
 pub mod Rest

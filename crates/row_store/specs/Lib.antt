@@ -3,6 +3,8 @@ pub mod Logs
 pub mod Texts
 pub mod OneRegion
 pub mod ManyRegions
+pub mod Records
+pub mod Indexes
 pub mod OneFile
 pub mod Sets
 pub mod Tests

@@ -2,6 +2,8 @@
 // contracts are proved by computing.
 ghost use Rattle.row_store.specs.OneRegion.{PutIsShown, CommitsRise, LongValueIsFound, ExtremesAreInOrder, LocksAreInTheWay, ReadsWait, DeletesHide, StrangeRowsAreRefused, BoundsKeep};
 ghost use Rattle.row_store.specs.ManyRegions.{SplitsRaiseEpochs, MergesJoin, InstallsBeginAnew, GeneratedIsShown};
+ghost use Rattle.row_store.specs.Records.{EmptyLogHasNothing, OtherRecordsCommitNothing};
+ghost use Rattle.row_store.specs.Indexes.{ReadIndexesMissNothing};
 ghost use Rattle.row_store.specs.OneFile.{FileIsRead};
 ghost use Rattle.row_store.specs.Sets.{PrefixesAreClosed, MergesWait};
 
@@ -83,4 +85,19 @@ pub fn prefixes_are_closed()
 /// Regions advance by themselves, but the commit of a merge needs the source's prepare.
 pub fn merges_wait()
     ensures { MergesWait }
+{}
+
+/// In the log with no entries no region is born, and the first entry makes its region.
+pub fn empty_log_has_nothing()
+    ensures { EmptyLogHasNothing }
+{}
+
+/// A lock record and a rollback record in the write family commit nothing.
+pub fn other_records_commit_nothing()
+    ensures { OtherRecordsCommitNothing }
+{}
+
+/// Of a log with a lock and its commit, which indexes are read indexes.
+pub fn read_indexes_miss_nothing()
+    ensures { ReadIndexesMissNothing }
 {}

@@ -23,9 +23,10 @@ pub enum Stop {
 
 pub use entries::store_of;
 pub use examples::{
-    bounds_keep, commits_rise, deletes_hide, extremes_are_in_order, file_is_read,
-    generated_is_shown, installs_begin_anew, locks_are_in_the_way, long_value_is_found,
-    merges_join, merges_wait, prefixes_are_closed, put_is_shown, reads_wait, splits_raise_epochs,
+    bounds_keep, commits_rise, deletes_hide, empty_log_has_nothing, extremes_are_in_order,
+    file_is_read, generated_is_shown, installs_begin_anew, locks_are_in_the_way,
+    long_value_is_found, merges_join, merges_wait, other_records_commit_nothing,
+    prefixes_are_closed, put_is_shown, read_indexes_miss_nothing, reads_wait, splits_raise_epochs,
     strange_rows_are_refused,
 };
 pub use log::SmallLog;
