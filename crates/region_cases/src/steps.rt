@@ -149,7 +149,7 @@ fn open_with<R: Print + AllocGlobal>(
         return println!(rt; "want of memory");
     };
     if let Some(place) = bytes.get_mut(at as usize) {
-        *place = byte as u8;
+        *place = (byte % 256) as u8;
     }
     open(rt, logs, bytes.as_slice())
 }
