@@ -6,6 +6,7 @@ ghost use Rattle.log_laws.specs.Chains.{chain_at};
 ghost use Rattle.log_laws.specs.Longer.{GoesOn};
 
 /// The digest of the first `n` entries is that of the first `m`, extended by those between them.
+#[tactic(auto, using(crate::proofs::Digests::chain_extended))]
 pub fn chains_are_extended()
     ensures { (log : Log) (m n : ℕ) → m ≤ n → fold extended_by (chain_at log m) (take (n - m) (drop m log.entries)) ≡ chain_at log n }
 {}

@@ -26,6 +26,7 @@ pub fn longer_logs_give_the_same_rows()
 
 /// A read is refused in the same way, where the mark isn't past the end of the shorter log; and a reply
 /// that is right stays right.
+#[tactic(auto, using(crate::proofs::Onward::refused_on))]
 pub fn longer_logs_answer_the_same()
     ensures refusal { (short long : Log) → GoesOn short long → IsLawful short → (A : ℕ → Bool) → IsClosed short A → (ask : Asked) (safe mark : ℕ) → mark ≤ length short.entries → refused long ask A safe mark ≡ refused short ask A safe mark }
     ensures reply { (short long : Log) → GoesOn short long → IsLawful short → (A : ℕ → Bool) → IsClosed short A → (ask : Asked) (bound : Option Bound) (safe mark : ℕ) (reply : Reply) → mark ≤ length short.entries → IsRight short ask bound A safe mark reply → IsRight long ask bound A safe mark reply }

@@ -6,10 +6,9 @@ ghost use Rattle.flash_types.specs.declared.ask.AskRegion.{AskRegion};
 ghost use Rattle.flash_types.specs.declared.refusal.Refusal.{Refusal};
 ghost use Rattle.committed_log.specs.Applied.{IsClosed, applied};
 ghost use Rattle.committed_log.specs.Lawful.{IsLawful};
-ghost use Rattle.committed_log.specs.Log.{Log, end};
-ghost use Rattle.committed_log.specs.Regions.{region};
+ghost use Rattle.committed_log.specs.Log.{Log};
 ghost use Rattle.committed_log.specs.declared.region.Region.TheVariants.{Gone};
-ghost use Rattle.committed_log.specs.Replies.{refused, refused_at};
+ghost use Rattle.committed_log.specs.Replies.{refused};
 ghost use Rattle.log_laws.specs.Refusals.{IsSo};
 
 /// Every refusal is true, at the index that it reports: by its kind, the timestamp is below the safe
