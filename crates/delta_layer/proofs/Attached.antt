@@ -18,7 +18,7 @@ use Rattle.stable_file.specs.Footer.{tail_at}
 use Rattle.stable_file.specs.Laws.{AllStand, AreFull, FooterTells, PacksHave, packs_told, told}
 use Rattle.stable_file.specs.Opened.{HasEnd, IsTailOf, grip_of, packs_of, schema_of}
 use Rattle.stable_file.specs.declared.file.StableFile.{StableFile}
-use Rattle.stable_file.specs.Packs.{versions_in}
+use Rattle.stable_file.specs.Packs.{has_room, versions_in}
 use Rattle.stable_file.proofs.Tails.{tail_same}
 use Rattle.stable_file.specs.Ranges.{is_as_told, reached, told_at, told_in}
 use Rattle.delta_layer.specs.Built.{AreTwo, IsOne, IsSegment}
@@ -76,10 +76,14 @@ piece_reads columns rows versions content len tail packs some up have tells is e
 -- ---- what is read suits the schema
 versions_suit : (end at : ℕ) (columns : List Column) (bytes : List ℕ) (versions : List Version) → versions_in end at columns bytes ≡ Ok versions → AllByRecursion (Suits columns) versions
 unfolding versions_in
-versions_suit end at columns bytes versions e =
-    let a = bind_ok (pack_at end columns bytes) _ versions e in
-    let b = if_ok (rise a.0) a.0 versions (Damaged at) a.2 in
-    subst (AllByRecursion (Suits columns)) b.1 (pack_suits columns end bytes a.0 a.1)
+versions_suit end at columns bytes versions e = by (has_room bytes) e
+  where
+    by : (room : Bool) → cond room (pack_at end columns bytes >>= λ vs. cond (rise vs) (Ok vs) (Err (Damaged at))) (Err (Damaged at)) ≡ Ok versions → AllByRecursion (Suits columns) versions
+    by false h = cc h
+    by true h =
+        let a = bind_ok (pack_at end columns bytes) _ versions h in
+        let b = if_ok (rise a.0) a.0 versions (Damaged at) a.2 in
+        subst (AllByRecursion (Suits columns)) b.1 (pack_suits columns end bytes a.0 a.1)
 
 told_suit : (pack : Pack) (columns : List Column) (content : List ℕ) (versions : List Version) → told_in pack columns content ≡ Ok versions → AllByRecursion (Suits columns) versions
 unfolding told_at

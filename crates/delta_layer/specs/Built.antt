@@ -1,5 +1,5 @@
 -- What the builds of segments have in common.
-use Rattle.std.specs.Prelude.{◌≡◌, ℕ, ◌≤◌, List, [], ◌∷◌, Option, Result, Ok, Err, IsErrOf}
+use Rattle.std.specs.Prelude.{◌≡◌, ℕ, ◌≤◌, List, [], ◌∷◌, Option, Result, Ok, Err, OnOk, IsErrOf}
 use Rattle.column_block.specs.declared.cell.Version.{Version}
 use Rattle.column_block.specs.declared.column.Column.{Column}
 use Rattle.column_file.specs.declared.file.ColumnFile.{ColumnFile}
@@ -48,10 +48,14 @@ abbrev pub GivesForBuild : {G : Type 0} → (G → List ℕ) → HandleRange →
 GivesForBuild bytes range part files (Ok versions) = IsPresent bytes range part files versions
 GivesForBuild bytes range part files (Err e) = FailsAs e (stable_in bytes part)
 
--- the reader's count of faults doesn't fall, and `Device` comes only where it rose
+-- the reader's count of faults doesn't fall, `Device` comes only where it rose, and at any other answer it is as it was
 pub record HasBuildCause {T : Type 0} (before now : ℕ) (result : Result T BuildError) : Type 0 where
   pub later : before ≤ now
   pub device : IsErrOf result Device → Rose before now
+  pub quiet : OnOk result (now ≡ before)
+  pub damaged : (at : ℕ) → IsErrOf result (Damaged at) → now ≡ before
+  pub one : IsErrOf result OneHandle → now ≡ before
+  pub memory : IsErrOf result Memory → now ≡ before
 
 -- it doesn't fail for having one handle
 abbrev pub NeverOneHandle : {T : Type 0} → Result T BuildError → Type 0

@@ -18,6 +18,7 @@ use Rattle.stable_file.specs.Ranges.{told_at, told_in, reached}
 use Rattle.stable_file.specs.Building.{first_cuts, packs_for, cuts, magic, footer, ending, file_of}
 use Rattle.stable_file.specs.Laws.{told, AllStand, IsReadAgain, IsAsTold, AreFull, BuiltPacksAreReadAgain}
 use Rattle.stable_file.proofs.BuildSteps.{last_reach}
+use Rattle.stable_file.proofs.Room.{room_again}
 use Rattle.stable_file.proofs.ToldAgain.{told_again}
 
 -- ---- a cut of versions that rise
@@ -62,7 +63,7 @@ all_drop P (suc n) (x ∷ xs) all = all_drop P n xs all.1
 
 one_again : (columns : List Column) (versions : List Version) → length columns < 2 ^ 16 → rise versions ≡ true → AllByRecursion (Suits columns) versions → PackFits columns versions → IsReadAgain columns versions
 unfolding versions_in
-one_again columns versions few rises suits fits = λ end at. rw (packs_again columns versions end few suits fits, rises) refl
+one_again columns versions few rises suits fits = λ end at. rw (room_again columns versions rises fits, packs_again columns versions end few suits fits, rises) refl
 
 module _ (columns : List Column) (rows : ℕ) (few : length columns < 2 ^ 16) (some : 0 < rows) where
   each_again : (packs : ℕ) (xs : List Version) → (packs - 1) * rows < length xs → rise xs ≡ true → AllByRecursion (Suits columns) xs → AllByRecursion (PackFits columns) (first_cuts packs rows xs) → AllByRecursion (IsReadAgain columns) (first_cuts packs rows xs)

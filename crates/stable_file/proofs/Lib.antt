@@ -1,6 +1,7 @@
 pub mod Going
 pub mod Rising
 pub mod BuildSteps
+mod Room
 mod ToldAgain
 mod NumbersAgain
 mod RangesAgain

@@ -1,18 +1,16 @@
 -- What the range of a column's numbers tells of each version of a pack.
-use Rattle.std.proofs.Common.{◌≡◌, ◌∙◌, refl, sym, ap, subst, ℕ, ℤ, zero, suc, pos, ◌+◌, ◌<◌, ◌≤ℤ◌, Bool, true, false, true≢false, cond, ◌&&◌, List, [], ◌∷◌, length, get_or, Option, Some, None, Result, Ok, Err, arith}
+use Rattle.std.proofs.Common.{◌≡◌, ◌∙◌, refl, sym, ap, subst, ℕ, ℤ, zero, suc, pos, ◌+◌, Bool, true, false, true≢false, cond, ◌&&◌, List, [], ◌∷◌, length, get_or, Option, Some, None, Ok, arith}
 use Rattle.std.specs.Prelude.{int_lt, int_le, slice_get, ◌==◌}
 use Rattle.std.specs.List.{AllByRecursion}
-use Rattle.std.specs.Option.{option_and_then}
 use Rattle.std.specs.Ordering.{int_eq}
 use Rattle.std.proofs.lemmas.Int.{ints}
-use Rattle.flash_list.specs.Steps.{◌>>=◌}
 use Rattle.column_block.specs.declared.cell.Cell.{Cell}
 use Rattle.column_block.specs.declared.cell.Cell.TheVariants as cell
 use Rattle.column_block.specs.declared.cell.Version.{Version}
 use Rattle.column_block.specs.declared.column.Column.{Column}
 use Rattle.column_block.specs.declared.column.MinMax.{MinMax}
 use Rattle.column_block.specs.declared.column.MinMax.TheVariants.{Empty, Of}
-use Rattle.column_block.specs.Numbers.{number_of, number_in, is_between, in_range, is_within_range}
+use Rattle.column_block.specs.Numbers.{number_of, number_in, in_range, is_within_range}
 use Rattle.pack_codec.specs.declared.fault.FormError.TheVariants.{Damaged}
 use Rattle.pack_codec.specs.Spelling.{cell_of}
 use Rattle.pack_codec.proofs.Binds.{bind_ok, if_ok}

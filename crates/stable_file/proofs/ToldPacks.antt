@@ -1,5 +1,5 @@
 -- What holds of the packs that a footer tells.
-use Rattle.std.proofs.Common.{◌≡◌, ◌∙◌, refl, sym, ap, subst, ℕ, zero, suc, ℤ, ◌+◌, ◌-◌, ◌^◌, ◌<◌, ◌≤◌, ◌≤ℤ◌, Bool, true, false, cond, ◌&&◌, nat_lt, nat_le, List, [], ◌∷◌, length, take, drop, Option, Some, None, Result, Ok, Err, arith}
+use Rattle.std.proofs.Common.{◌≡◌, ◌∙◌, refl, ap, subst, ℕ, zero, suc, ℤ, ◌+◌, ◌-◌, ◌^◌, ◌<◌, ◌≤◌, ◌≤ℤ◌, Bool, true, false, cond, ◌&&◌, nat_lt, nat_le, List, [], ◌∷◌, length, take, drop, Option, Some, None, Ok, Err, arith}
 use Rattle.std.specs.Prelude.{◌==◌, int_lt, slice_get}
 use Rattle.std.specs.Int.{w32, w64, cast_signed}
 use Rattle.std.specs.List.{AllByRecursion}
@@ -8,8 +8,6 @@ use Rattle.std.proofs.lemmas.Int.{ints}
 use Rattle.flash_list.specs.Steps.{◌>>=◌}
 use Rattle.flash_list.specs.Fields.{number_at}
 use Rattle.column_block.specs.declared.column.Column.{Column}
-use Rattle.column_block.specs.declared.column.MinMax.{MinMax}
-use Rattle.pack_codec.specs.declared.fault.FormError.{FormError}
 use Rattle.pack_codec.specs.declared.fault.FormError.TheVariants.{Damaged}
 use Rattle.pack_codec.specs.Faults.{here}
 use Rattle.pack_codec.specs.Reading.{ended}

@@ -1,5 +1,5 @@
 -- How a call of the program answers what a reading answers.
-use Rattle.std.specs.Prelude.{◌≡◌, ℕ, ◌≤◌, Result, Ok, Err, IsErrOf}
+use Rattle.std.specs.Prelude.{◌≡◌, ℕ, ◌≤◌, Result, Ok, Err, OnOk, IsErrOf}
 use Rattle.flash_io.specs.Faults.{Rose}
 use Rattle.pack_codec.specs.declared.fault.FormError.{FormError}
 use Rattle.pack_codec.specs.declared.fault.FormError.TheVariants as form
@@ -33,10 +33,13 @@ abbrev pub GivesOrDevice : {X Y : Type 0} → (X → Y) → Result X ReadError �
 GivesOrDevice view (Ok x) read = read ≡ Ok (view x)
 GivesOrDevice view (Err e) read = FailsOrDevice e read
 
--- the count of faults doesn't fall, and `Device` comes only where it rose
+-- the count of faults doesn't fall, `Device` comes only where it rose, and at any other answer it is as it was
 pub record HasReadCause {T : Type 0} (before now : ℕ) (result : Result T ReadError) : Type 0 where
   pub later : before ≤ now
   pub device : IsErrOf result Device → Rose before now
+  pub quiet : OnOk result (now ≡ before)
+  pub damaged : (at : ℕ) → IsErrOf result (Damaged at) → now ≡ before
+  pub memory : IsErrOf result Memory → now ≡ before
 
 -- It isn't for what was read.
 abbrev pub IsOutside : ReadError → Type 0

@@ -105,8 +105,8 @@ fn packs_in<R: Reader>(
 /// Opens the stable file of this length through a reader: it reads the last twelve bytes and the
 /// footer, and no pack. The form, and where the file is `Damaged`, are those of `attach`.
 ///
-/// `Device` comes only where the reader's count of faults rose; a footer of 4 GiB and more finds no
-/// memory.
+/// `Device` comes only where the reader's count of faults rose, which is as it was at any other
+/// answer; a footer of 4 GiB and more finds no memory.
 pub fn open<R: Reader>(
     alloc: Global,
     grip: R::Grip,
@@ -129,11 +129,13 @@ pub fn open<R: Reader>(
 
 /// The versions of a pack. Packs are counted from 0.
 ///
-/// `Damaged` names the first place in the file where the pack isn't of the form, as
-/// `pack_codec::read_pack` says, and the pack's place where it has no version, where its versions
+/// `Damaged` names the pack's place where its first eight bytes tell more versions than it has bytes,
+/// before memory is taken for them; then the first place in the file where the pack isn't of the form,
+/// as `pack_codec::read_pack` says; and the pack's place where it has no version, where its versions
 /// don't rise by handle and then timestamp, and where the footer belies it: its number of versions,
 /// its first and last handle, or the range of a column's numbers. `Device` comes only where the
-/// reader's count of faults rose; a pack of 4 GiB and more finds no memory.
+/// reader's count of faults rose, which is as it was at any other answer; a pack of 4 GiB and more
+/// finds no memory.
 pub fn read_pack<R: Reader>(
     file: &StableFile<R::Grip>,
     alloc: Global,

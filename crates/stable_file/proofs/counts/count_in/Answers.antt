@@ -1,6 +1,4 @@
-use Rattle.std.proofs.Common.{◌≡◌, ◌∙◌, sym, ap, take, arith}
-use Rattle.std.proofs.lemmas.List.{take_all}
-use Rattle.stable_file.specs.Opened.{count_in}
+use Rattle.std.proofs.Common.{◌∙◌, sym}
 use Rattle.stable_file.proofs.Counting.{counts_one, passes_over}
 use Rattle.stable_file.proofs.counts.count_in.Goals as goal
 use Rattle.stable_file.proofs.counts.count_in.Goals.{then-is_met, else-is_met}
