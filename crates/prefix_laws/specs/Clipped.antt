@@ -5,7 +5,7 @@ use Rattle.flash_types.specs.Ranges.{has_any}
 use Rattle.flash_types.specs.declared.range.HandleRange.{HandleRange}
 use Rattle.good_replica.specs.Effect.{clipped, common}
 use Rattle.good_replica.specs.Trail.{DeltaFile, Puts, Clears, steps_on}
-use Rattle.prefix_laws.specs.Tagged.{Tagged, TaggedSegment, files_at, tagged_of}
+use Rattle.prefix_laws.specs.Tagged.{Tagged, TaggedSegment, files_at, tagged_of, with_tag}
 
 -- ---- files that say nothing
 
@@ -25,7 +25,7 @@ SaySame h some others = (k : ℕ) → steps_on h (files_at k some) ≡ steps_on 
 -- ---- kept to a range
 
 abbrev pub clip_one : HandleRange → Tagged → Tagged
-clip_one range f = record { tag = f.tag; file = clipped range f.file }
+clip_one range f = with_tag f.tag (clipped range f.file)
 
 -- kept to a range, without those that say nothing then
 abbrev pub clip : HandleRange → List Tagged → List Tagged
@@ -40,11 +40,11 @@ in_order left right left_named right_named left_more right_more = clip left left
 -- the delete-range of an entry, kept to a range, as a file with a tag
 abbrev pub clears_part : ℕ → HandleRange → Option HandleRange → List Tagged
 clears_part tag range None = []
-clears_part tag range (Some other) = record { tag = tag; file = Clears (common range other) } ∷ []
+clears_part tag range (Some other) = with_tag tag (Clears (common range other)) ∷ []
 
 -- the versions of an entry, kept to a range, as a file with a tag
 abbrev pub puts_part : ℕ → HandleRange → List Version → List Tagged
-puts_part tag range versions = record { tag = tag; file = clipped range (Puts versions) } ∷ []
+puts_part tag range versions = with_tag tag (clipped range (Puts versions)) ∷ []
 
 -- A segment after an entry: the entry's delete-range and then its versions come last, but for what says nothing.
 abbrev pub absorb : ℕ → Option HandleRange → List Version → TaggedSegment → TaggedSegment

@@ -19,6 +19,9 @@ pub record TaggedSegment : Type 0 where
 abbrev pub tagged_of : HandleRange → List Version → List Tagged → TaggedSegment
 tagged_of range stable files = record { range = range; stable = stable; files = files }
 
+abbrev pub with_tag : ℕ → DeltaFile → Tagged
+with_tag tag file = record { tag = tag; file = file }
+
 -- ---- what is there at a count
 
 -- whether the file had come by then

@@ -5,6 +5,7 @@ use Rattle.column_block.specs.declared.cell.Version.{Version}
 use Rattle.flash_types.specs.Ranges.{has_any, holds}
 use Rattle.flash_types.specs.declared.range.HandleRange.{HandleRange}
 use Rattle.good_replica.specs.Changed.{IsCollected, had, view}
+use Rattle.good_replica.specs.Trail.{DeltaFile}
 use Rattle.prefix_laws.specs.Clipped.{in_order}
 use Rattle.prefix_laws.specs.Tagged.{Tagged, TaggedSegment, file_in, tagged_of}
 
@@ -63,13 +64,13 @@ rest_of left right = in_order left.range right.range left.named right.named left
 
 -- ---- what a new stable part has
 
--- of each handle of a range, what the stable part and the files that were taken have
-abbrev pub HasAllOf : HandleRange → List Version → List Tagged → List Version → Type 0
-HasAllOf range stable taken new = (h : ℤ) (ts : ℕ) → holds range h ≡ true → had h new ts ≡ view h stable (map file_in taken) ts
+-- of each handle of a range, what the stable part and the files have
+abbrev pub HasAllOf : HandleRange → List Version → List DeltaFile → List Version → Type 0
+HasAllOf range stable files new = (h : ℤ) (ts : ℕ) → holds range h ≡ true → had h new ts ≡ view h stable files ts
 
 -- of each handle of a range, a collection of that at a safe point
-abbrev pub HasCollectionOf : ℕ → HandleRange → List Version → List Tagged → List Version → Type 0
-HasCollectionOf safe range stable taken new = (h : ℤ) → holds range h ≡ true → IsCollected safe (view h stable (map file_in taken)) (had h new)
+abbrev pub HasCollectionOf : ℕ → HandleRange → List Version → List DeltaFile → List Version → Type 0
+HasCollectionOf safe range stable files new = (h : ℤ) → holds range h ≡ true → IsCollected safe (view h stable files) (had h new)
 
 -- ---- ranges
 

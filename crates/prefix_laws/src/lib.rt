@@ -2,3 +2,4 @@
 //! to it, whatever is applied, flushed, merged or split: so a crash leaves what is good.
 #![tactic(auto)]
 
+pub mod laws;
