@@ -1,0 +1,3 @@
+pub mod OneCall
+pub mod Others
+pub mod Numbers
