@@ -1,0 +1,10 @@
+//! The laws: each function does nothing when it runs, and its contract is a law.
+mod builds;
+mod files;
+mod installs;
+
+pub use builds::{
+    builds_are_by_their_jobs, compactions_give, delta_merges_give, merges_give, splits_give,
+};
+pub use files::{compactions_keep_counts, flushed_layers_keep_counts, repacked_segments_stay_good};
+pub use installs::{compactions_install, delta_merges_install, merges_install, splits_install};
