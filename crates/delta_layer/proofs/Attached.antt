@@ -16,7 +16,7 @@ use Rattle.stable_file.specs.declared.pack.Pack.{Pack}
 use Rattle.stable_file.specs.Building.{cuts, file}
 use Rattle.stable_file.specs.Footer.{tail_at}
 use Rattle.stable_file.specs.Laws.{AllStand, AreFull, FooterTells, PacksHave, packs_told, told}
-use Rattle.stable_file.specs.Opened.{HasEnd, IsTailOf, grip_of, packs_of, schema_of}
+use Rattle.stable_file.specs.Opened.{HasEnd, IsTailOf, grip_of, packs_of}
 use Rattle.stable_file.specs.declared.file.StableFile.{StableFile}
 use Rattle.stable_file.specs.Packs.{has_room, versions_in}
 use Rattle.stable_file.proofs.Tails.{tail_same}

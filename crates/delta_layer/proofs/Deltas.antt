@@ -1,17 +1,15 @@
 -- What an index over the files of a delta tells of the delta.
-use Rattle.std.proofs.Common.{◌≡◌, ◌∙◌, refl, sym, ap, subst, ℕ, zero, suc, ℤ, ◌+◌, ◌<◌, ◌≤◌, Bool, true, false, true≢false, not, cond, ◌||◌, List, [], ◌∷◌, ◌++◌, length, map, filter, fold, slice_get, Option, Some, None, arith, append_assoc, length-append}
+use Rattle.std.proofs.Common.{◌≡◌, ◌∙◌, refl, sym, ap, subst, ℕ, zero, suc, ℤ, ◌+◌, ◌<◌, Bool, true, false, true≢false, not, cond, ◌||◌, List, [], ◌∷◌, ◌++◌, length, map, filter, fold, slice_get, Option, Some, None, arith, append_assoc, length-append}
 use Rattle.std.proofs.lemmas.List.{map-append, append-nil}
 use Rattle.std.proofs.lemmas.List.Elements.{filter_map-append}
 use Rattle.std.proofs.lemmas.List.Folds.{list_any-append}
 use Rattle.std.proofs.lemmas.List.Sums.{fold-append}
-use Rattle.std.proofs.lemmas.Map.{lookup-none}
-use Rattle.std.proofs.lemmas.Map.Entries.{lookup-filter-keys, none_below_head}
-use Rattle.std.proofs.lemmas.Cmp.{tied_back}
+use Rattle.std.proofs.lemmas.Map.Entries.{lookup-filter-keys}
 use Rattle.std.proofs.lemmas.Int.{ints}
-use Rattle.std.specs.BTreeMap.{is_at, insert_entry}
-use Rattle.std.specs.List.{AllByRecursion, enumerate_from, filter_map, list_any, cons_option}
+use Rattle.std.specs.BTreeMap.{is_at}
+use Rattle.std.specs.List.{AllByRecursion, enumerate_from, cons_option}
 use Rattle.std.specs.List.Sorted.{IsStrictlySortedBy}
-use Rattle.std.specs.Map.{lookup, keys_of}
+use Rattle.std.specs.Map.{lookup}
 use Rattle.std.specs.Option.{option_or, option_and_then}
 use Rattle.std.specs.Ordering.{is_eq, int_cmp, nat_cmp, ordering_then, ordering_reverse, match_ordering}
 use Rattle.std.specs.declared.cmp.Ordering.{Ordering}
@@ -24,16 +22,15 @@ use Rattle.flash_types.specs.declared.range.HandleRange.{HandleRange}
 use Rattle.delta_index.specs.Indexes.{Entry, put, entry_of, entries_of, extended, cleared, AreRising}
 use Rattle.column_block.specs.Order.{key_cmp}
 use Rattle.delta_index.proofs.Puts.{rising_put, rising_none}
-use Rattle.column_block.proofs.Ordered.{key_cmp_total, key}
+use Rattle.column_block.proofs.Ordered.{key_cmp_total}
 use Rattle.delta_index.proofs.Files.{rising_left, rising_by}
 use Rattle.good_replica.specs.Changed.{had}
-use Rattle.good_replica.specs.Trail.{DeltaFile, Step, Cleared, Wrote, Puts, Clears, steps_on, step_on, wrote_unless_empty, versions_on, after_version, after_versions, after_step, after_steps}
-use Rattle.good_replica.proofs.Facts.{or_none_right}
+use Rattle.good_replica.specs.Trail.{Cleared, Puts, steps_on, step_on, wrote_unless_empty, versions_on, after_versions, after_step, after_steps}
 use Rattle.good_replica.proofs.Steps.{versions_over}
 use Rattle.delta_layer.specs.Files.{file_of, files_of, indexed, with_file, index_of}
 use Rattle.delta_layer.specs.Overlay.{block_in, at_place, clear_in, clears_in, any_holds}
-use Rattle.delta_layer.proofs.Indexes.{get_left, get_last, enumerate_more}
-use Rattle.delta_layer.proofs.Order.{key_is, is_at_key, here, here_is, had_cons}
+use Rattle.delta_layer.proofs.Indexes.{get_left, get_last}
+use Rattle.delta_layer.proofs.Order.{is_at_key, here, here_is, had_cons}
 
 -- ---- places
 

@@ -1,5 +1,5 @@
 -- The indexes of a layer as its files come and go.
-use Rattle.std.proofs.Common.{◌≡◌, ◌∙◌, ◌⊎◌, inl, inr, refl, sym, ap, subst, ℕ, zero, suc, ◌+◌, ◌-◌, ◌<◌, ◌≤◌, List, [], ◌∷◌, ◌++◌, length, map, take, drop, fold, Some, slice_get, arith, length-append, length-take-le}
+use Rattle.std.proofs.Common.{◌≡◌, ◌∙◌, ◌⊎◌, inl, inr, refl, sym, ap, subst, ℕ, zero, suc, ◌+◌, ◌<◌, ◌≤◌, List, [], ◌∷◌, ◌++◌, length, take, fold, Some, slice_get, arith, length-append, length-take-le}
 use Rattle.std.proofs.lemmas.List.{map-append, take-append-le, take-map, take-take, take_all, take_at}
 use Rattle.std.proofs.lemmas.List.Sums.{fold-append}
 use Rattle.std.specs.List.{enumerate_from}
@@ -9,7 +9,7 @@ use Rattle.delta_layer.specs.Files.{IsLayered, indexed, with_file, index_of}
 use Rattle.std.specs.Arc.{arc_value}
 use Rattle.delta_layer.specs.Slots.{AreSlots, files_in, indexes_in}
 use Rattle.delta_layer.specs.declared.slots.Slot.{Slot}
-use Rattle.delta_layer.proofs.Pairs.{pairs_none, pairs_left}
+use Rattle.delta_layer.proofs.Pairs.{pairs_none}
 use Rattle.delta_layer.proofs.Layers.{Before, front_is_layered}
 
 pub get_left : {X : Type 0} (xs ys : List X) (i : ℕ) → i < length xs → slice_get (xs ++ ys) i ≡ slice_get xs i

@@ -1,13 +1,13 @@
 -- Files that take the place of others keep the order of a layer.
-use Rattle.std.proofs.Common.{◌≡◌, ◌∙◌, refl, sym, ap, subst, ℕ, zero, suc, ◌+◌, ◌-◌, ◌<◌, ◌≤◌, Bool, true, false, true≢false, not, cond, List, [], ◌∷◌, ◌++◌, length, take, drop, slice_range, arith, length-take-le, length-take, length-drop, append_assoc}
+use Rattle.std.proofs.Common.{◌≡◌, ◌∙◌, refl, sym, ap, subst, ℕ, suc, ◌+◌, ◌-◌, ◌<◌, ◌≤◌, Bool, true, false, true≢false, not, cond, List, [], ◌∷◌, ◌++◌, length, take, drop, slice_range, arith, length-take, length-drop, append_assoc}
 use Rattle.std.proofs.lemmas.List.{take-append-drop, drop-drop}
-use Rattle.std.proofs.lemmas.List.Elements.{All-nil, All-cons, All-head, All-tail, All-weaker, All-from_recursion}
+use Rattle.std.proofs.lemmas.List.Elements.{All-nil, All-cons, All-head, All-weaker, All-from_recursion}
 use Rattle.std.proofs.lemmas.List.Kept.{AllPairs-cons}
-use Rattle.std.specs.List.{All, AllPairs, AllByRecursion, prefix_len, position_or_len}
+use Rattle.std.specs.List.{All, AllByRecursion}
 use Rattle.column_file.specs.declared.file.ColumnFile.{ColumnFile}
 use Rattle.column_file.specs.declared.file.ColumnFile.TheVariants.{Mem, Tiny, DeleteRange}
 use Rattle.delta_layer.specs.Files.{is_mem, is_tiny, HasNoMem, IsLayered}
-use Rattle.delta_layer.specs.Repacked.{replaced, first_mem, flushed, compacted, CanFlush, CanCompact}
+use Rattle.delta_layer.specs.Repacked.{first_mem, flushed, compacted, CanFlush, CanCompact}
 use Rattle.delta_layer.proofs.Pairs.{pairs_none, pairs_left, pairs_right, pairs_cross, pairs_both}
 
 abbrev pub Before : ColumnFile → ColumnFile → Type 0

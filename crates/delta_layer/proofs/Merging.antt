@@ -1,5 +1,5 @@
 -- What stable versions and newer ones make together.
-use Rattle.std.proofs.Common.{◌≡◌, ◌∙◌, refl, sym, ap, subst, ℕ, zero, suc, ℤ, ◌+◌, ◌<◌, Bool, true, false, true≢false, cond, List, [], ◌∷◌, ◌++◌, length, take, drop, Option, Some, None, arith}
+use Rattle.std.proofs.Common.{◌≡◌, ◌∙◌, refl, sym, ap, subst, ℕ, suc, ℤ, ◌+◌, Bool, true, false, cond, List, [], ◌∷◌, ◌++◌, take, drop, Option, Some, None, arith}
 use Rattle.std.specs.Option.{option_or}
 use Rattle.std.specs.List.{AllByRecursion}
 use Rattle.std.specs.Ordering.{is_eq}
@@ -7,7 +7,7 @@ use Rattle.std.specs.declared.cmp.Ordering.TheVariants.{Less, Equal}
 use Rattle.std.proofs.lemmas.List.{take-append-drop}
 use Rattle.column_block.specs.declared.cell.Version.{Version}
 use Rattle.column_block.specs.Order.{key_cmp, is_before, version_cmp}
-use Rattle.column_block.proofs.Ordered.{key_cmp_total, key, before_less, neither, Above, Up, above_more, each_both, each_left, each_right, each_weaker, up_left, up_right, up_cross, up_both}
+use Rattle.column_block.proofs.Ordered.{key_cmp_total, key, before_less, neither, Above, Up, above_more, each_both, each_left, each_right, up_left, up_right, up_cross, up_both}
 use Rattle.good_replica.proofs.Facts.{or_none_right}
 use Rattle.delta_layer.specs.Overlay.{count_before, own, merged}
 use Rattle.delta_layer.proofs.Order.{is_at_key, at, at_both, key_is, none_above}

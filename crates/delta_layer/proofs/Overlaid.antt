@@ -1,5 +1,5 @@
 -- The versions that are present, and that there is one list of them.
-use Rattle.std.proofs.Common.{◌≡◌, ◌∙◌, refl, sym, ap, subst, ℕ, zero, suc, ℤ, Bool, true, false, true≢false, not, cond, ◌&&◌, List, [], ◌∷◌, ◌++◌, ◌+◌, length, take, drop, slice_get, filter, Option, Some, None, arith}
+use Rattle.std.proofs.Common.{◌≡◌, ◌∙◌, refl, sym, ap, subst, ℕ, zero, suc, ℤ, Bool, true, false, true≢false, not, cond, ◌&&◌, List, [], ◌∷◌, ◌++◌, ◌+◌, length, take, drop, slice_get, filter, Option, Some, None}
 use Rattle.std.proofs.lemmas.Cmp.{tied_itself}
 use Rattle.std.proofs.lemmas.List.{append-nil, take_at, drop_at}
 use Rattle.std.proofs.lemmas.List.Elements.{filter-append, filter_map-append}
@@ -17,11 +17,10 @@ use Rattle.column_file.specs.declared.file.ColumnFile.{ColumnFile}
 use Rattle.flash_types.specs.Ranges.{holds}
 use Rattle.flash_types.specs.declared.range.HandleRange.{HandleRange}
 use Rattle.delta_index.specs.Indexes.{Entry, AreRising}
-use Rattle.column_block.specs.Order.{key_cmp, version_cmp, Rise}
-use Rattle.column_block.proofs.Ordered.{key_cmp_total, key, Above, Up, above_more, each_filter, up_filter, rise_from_up, up_from_rise}
-use Rattle.delta_index.proofs.Files.{rising_by}
+use Rattle.column_block.specs.Order.{key_cmp}
+use Rattle.column_block.proofs.Ordered.{key_cmp_total, key, Above, Up, above_more, up_filter, rise_from_up, up_from_rise}
 use Rattle.good_replica.specs.Changed.{had, view}
-use Rattle.good_replica.specs.Trail.{DeltaFile, steps_on, after_steps}
+use Rattle.good_replica.specs.Trail.{DeltaFile}
 use Rattle.delta_layer.specs.Files.{files_of, index_of}
 use Rattle.delta_layer.specs.Overlay.{at_place, placed, in_range, clears_in, any_holds, picked, stays, merged}
 use Rattle.delta_layer.specs.Present.{ArePresent, AreWithin}

@@ -1,12 +1,14 @@
 -- The versions of a stable file, pack by pack.
-use Rattle.std.proofs.Common.{◌≡◌, ◌∙◌, refl, sym, ap, subst, ℕ, zero, suc, ◌+◌, ◌-◌, ◌<◌, ◌≤◌, Bool, true, false, true≢false, cond, ◌&&◌, List, [], ◌∷◌, ◌++◌, length, take, drop, fold, slice_get, Option, Some, None, Result, Ok, Err, arith}
+use Rattle.std.proofs.Common.{◌≡◌, ◌∙◌, refl, sym, ap, subst, ℕ, zero, suc, ◌+◌, ◌-◌, ◌<◌, ◌≤◌, Bool, true, false, true≢false, ◌&&◌, List, [], ◌∷◌, ◌++◌, length, take, drop, fold, slice_get, Some, Result, Ok, Err, arith}
 use Rattle.std.proofs.lemmas.List.{take_all, take-append-drop}
 use Rattle.std.proofs.lemmas.List.Sums.{fold-append}
 use Rattle.std.specs.List.{cons_option}
+use Rattle.std.specs.Result.{IsErrOf}
 use Rattle.column_block.specs.declared.column.Column.{Column}
 use Rattle.column_block.specs.declared.cell.Version.{Version}
 use Rattle.pack_codec.specs.declared.fault.FormError.{FormError}
-use Rattle.stable_file.specs.Faults.{FailsOrDevice}
+use Rattle.flash_io.specs.Faults.{Rose}
+use Rattle.stable_file.specs.Faults.{FailsOrDevice, HasReadCause}
 use Rattle.stable_file.specs.declared.fault.ReadError.{ReadError}
 use Rattle.stable_file.specs.declared.fault.ReadError.TheVariants as read
 use Rattle.stable_file.specs.declared.pack.Pack.{Pack}
@@ -78,3 +80,20 @@ module _ (columns : List Column) (bytes : List ℕ) where
 
   pub packs_done : (packs : List Pack) (n : ℕ) (all : List Version) → length packs ≤ n → packs_in columns bytes (take n packs) ≡ Ok all → packs_in columns bytes packs ≡ Ok all
   packs_done packs n all le is = ap (packs_in columns bytes) (sym (take_all n packs le)) ∙ is
+
+-- ---- why a loop over packs fails
+
+other_err : {T U : Type 0} (e f : ReadError) → IsErrOf {T = U} (Err e) f → IsErrOf {T = T} (Err e) f
+other_err e f is = ap (λ x. Err x) (same is)
+  where
+    same : {U : Type 0} → IsErrOf {T = U} (Err e) f → e ≡ f
+    same h = cc h
+
+pub fails_on : {T U : Type 0} (before mid now : ℕ) (e : ReadError) → mid ≡ before → HasReadCause {T = T} mid now (Err e) → HasReadCause {T = U} before now (Err e)
+fails_on before mid now e same h = record {
+  later = subst (λ n. n ≤ now) same h.later;
+  device = λ is. subst (λ n. Rose n now) same (h.device (other_err e read.Device is));
+  quiet = tt;
+  damaged = λ at is. h.damaged at (other_err e (read.Damaged at) is) ∙ same;
+  memory = λ is. h.memory (other_err e read.Memory is) ∙ same;
+}

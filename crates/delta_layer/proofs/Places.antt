@@ -1,11 +1,10 @@
 -- Versions by their places, and the steps of the loops over them.
-use Rattle.std.proofs.Common.{◌≡◌, ◌∙◌, refl, sym, ap, subst, ℕ, zero, suc, ℤ, ◌+◌, ◌-◌, ◌<◌, ◌≤◌, ◌≤ℤ◌, Bool, true, false, true≢false, not, cond, ◌&&◌, ◌||◌, List, [], ◌∷◌, ◌++◌, length, map, take, drop, filter, slice_get, slice_range, get_or, Option, Some, None, arith, add-zero, append_assoc, length-append}
+use Rattle.std.proofs.Common.{◌≡◌, ◌∙◌, refl, sym, ap, subst, ℕ, zero, suc, ◌+◌, ◌-◌, ◌<◌, ◌≤◌, Bool, true, false, cond, List, [], ◌∷◌, ◌++◌, length, map, take, drop, filter, slice_get, slice_range, get_or, Option, Some, arith, append_assoc}
 use Rattle.std.proofs.lemmas.List.{drop-drop, drop_all, take-append-drop, append-nil}
 use Rattle.std.proofs.lemmas.List.Elements.{filter_map-append, filter-append, All-push, All-nil}
-use Rattle.std.specs.List.{All, AllByRecursion, filter_map, cons_option, prefix_len}
-use Rattle.std.proofs.lemmas.Option.{slice_get_within, slice_get-get_or}
+use Rattle.std.specs.List.{cons_option, prefix_len}
+use Rattle.std.proofs.lemmas.Option.{slice_get-get_or}
 use Rattle.column_block.specs.declared.cell.Version.{Version}
-use Rattle.flash_types.specs.declared.range.HandleRange.{HandleRange}
 use Rattle.column_block.specs.Order.{is_before}
 use Rattle.delta_layer.specs.Overlay.{picked, ArePlaces, count_before, own, merged}
 

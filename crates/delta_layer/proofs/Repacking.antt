@@ -1,5 +1,5 @@
 -- Layers in which one file stands for several show the same.
-use Rattle.std.proofs.Common.{◌≡◌, ◌∙◌, refl, sym, ap, subst, ℕ, zero, suc, ℤ, ◌+◌, ◌-◌, ◌<◌, ◌≤◌, Bool, true, false, true≢false, cond, ◌||◌, List, [], ◌∷◌, ◌++◌, length, map, take, drop, fold, slice_range, Option, Some, None, arith, lit≤, lit<}
+use Rattle.std.proofs.Common.{◌≡◌, ◌∙◌, refl, sym, ap, ℕ, ℤ, ◌+◌, true, false, true≢false, List, [], ◌∷◌, ◌++◌, take, drop, slice_range, Option, None, arith, lit≤, lit<}
 use Rattle.std.proofs.lemmas.List.{map-append}
 use Rattle.std.proofs.lemmas.List.Elements.{filter-append, filter_map-append}
 use Rattle.std.specs.Ordering.{int_eq}
@@ -13,7 +13,7 @@ use Rattle.good_replica.specs.Changed.{view, had}
 use Rattle.good_replica.specs.Trail.{Step, Puts, steps_on, step_on, wrote_unless_empty, versions_on, after_version, after_versions, after_step, after_steps}
 use Rattle.good_replica.proofs.Steps.{clear, steps_over}
 use Rattle.delta_layer.specs.Files.{file_of, files_of, is_mem, is_tiny}
-use Rattle.delta_layer.specs.Repacked.{replaced, first_mem, flushed, compacted, CanFlush, CanCompact, ShowSame, Repacked, Flushed, Compacted, Then}
+use Rattle.delta_layer.specs.Repacked.{first_mem, CanFlush, CanCompact, ShowSame, Repacked, Flushed, Compacted, Then}
 use Rattle.delta_layer.proofs.Layers.{parted}
 use Rattle.column_block.proofs.Ordered.{each_weaker}
 

@@ -1,5 +1,5 @@
 -- Delete-ranges beside handles that rise.
-use Rattle.std.proofs.Common.{◌≡◌, ◌∙◌, refl, sym, ap, subst, ℕ, zero, suc, ℤ, ◌+◌, ◌-◌, ◌<◌, ◌≤ℤ◌, ◌<ℤ◌, Bool, true, false, true≢false, not, cond, ◌&&◌, ◌||◌, List, [], ◌∷◌, ◌++◌, length, take, drop, get_or, slice_get, Option, Some, None, arith}
+use Rattle.std.proofs.Common.{◌≡◌, ◌∙◌, refl, sym, ap, subst, ℕ, suc, ℤ, ◌+◌, ◌-◌, ◌<◌, ◌≤ℤ◌, Bool, true, false, true≢false, not, cond, ◌&&◌, ◌||◌, List, [], ◌∷◌, ◌++◌, take, drop, get_or, slice_get, Option, Some, None, arith}
 use Rattle.std.specs.Prelude.{int_le, int_lt}
 use Rattle.std.specs.List.{AllByRecursion, cons_option}
 use Rattle.std.proofs.lemmas.Int.{ints}
@@ -10,7 +10,7 @@ use Rattle.std.specs.declared.cmp.Ordering.TheVariants.{Less, Equal, Greater}
 use Rattle.column_block.specs.declared.cell.Version.{Version}
 use Rattle.flash_types.specs.Ranges.{holds, is_below}
 use Rattle.flash_types.specs.declared.range.HandleRange.{HandleRange}
-use Rattle.delta_layer.specs.Overlay.{any_holds, reached, later_end, further, stays, AreByLow}
+use Rattle.delta_layer.specs.Overlay.{any_holds, reached, further, stays, AreByLow}
 use Rattle.column_block.proofs.Ordered.{Up, Above, handle_le, each_left, each_right, up_left, up_cross}
 use Rattle.delta_layer.proofs.Places.{take_more, take_split}
 

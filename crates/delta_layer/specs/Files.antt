@@ -1,5 +1,5 @@
 -- The files of a delta: what they say, their order, and the index over them.
-use Rattle.std.specs.Prelude.{◌≡◌, ℕ, Bool, true, false, List, [], ◌∷◌, map, fold}
+use Rattle.std.specs.Prelude.{◌≡◌, ℕ, Bool, true, false, List, [], map, fold}
 use Rattle.std.specs.List.{AllByRecursion, AllPairs, enumerate_from}
 use Rattle.column_block.specs.declared.cell.Version.{Version}
 use Rattle.column_file.specs.declared.file.ColumnFile.{ColumnFile}

@@ -1,5 +1,5 @@
 -- How the versions that are present are found, step by step. No contract of a public call cites these.
-use Rattle.std.specs.Prelude.{◌≡◌, ℕ, ℤ, ◌<◌, ◌+◌, Bool, true, false, not, ◌&&◌, ◌||◌, int_lt, List, [], ◌∷◌, ◌++◌, length, take, drop, filter, slice_get, if◌then◌else◌, Option, Some, None}
+use Rattle.std.specs.Prelude.{◌≡◌, ℕ, ℤ, ◌<◌, Bool, false, not, ◌&&◌, int_lt, List, [], ◌∷◌, ◌++◌, length, take, drop, filter, slice_get, if◌then◌else◌, Option, Some, None}
 use Rattle.std.specs.List.{All, filter_map, list_any, prefix_len}
 use Rattle.std.specs.Option.{option_and_then}
 use Rattle.column_block.specs.declared.cell.Version.{Version}
@@ -8,7 +8,7 @@ use Rattle.column_file.specs.declared.file.ColumnFile.TheVariants.{Mem, Tiny, De
 use Rattle.delta_index.specs.Indexes.{Entry}
 use Rattle.flash_types.specs.Ranges.{holds, is_below}
 use Rattle.flash_types.specs.declared.range.HandleRange.{HandleRange}
-use Rattle.column_block.specs.Order.{is_before, rise}
+use Rattle.column_block.specs.Order.{is_before}
 
 -- ---- versions by their places
 

@@ -5,7 +5,6 @@ use Rattle.column_block.specs.declared.cell.Version.{Version}
 use Rattle.flash_types.specs.Ranges.{holds}
 use Rattle.flash_types.specs.declared.range.HandleRange.{HandleRange}
 use Rattle.column_file.specs.declared.file.ColumnFile.{ColumnFile}
-use Rattle.pack_codec.specs.declared.fault.FormError.{FormError}
 use Rattle.stable_file.specs.declared.fault.ReadError.{ReadError}
 use Rattle.stable_file.specs.declared.file.StableFile.{StableFile}
 use Rattle.stable_file.specs.Faults.{FailsOrDevice}

@@ -1,9 +1,5 @@
 use Rattle.std.proofs.Common.{◌∙◌}
 use Rattle.column_block.proofs.Ordered.{rise_of}
-use Rattle.delta_layer.proofs.Sweeping.{stays_here}
-use Rattle.delta_layer.proofs.Places.{filter_step}
-use Rattle.delta_layer.proofs.Overlaid.{are_present}
-use Rattle.delta_layer.proofs.Repacking.{repacked_same}
 use Rattle.delta_layer.proofs.built.stable_bytes.Goals as goal
 
 pub build-requires-clause-rise : goal.build-requires-clause-rise

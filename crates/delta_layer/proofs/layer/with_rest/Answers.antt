@@ -1,4 +1,4 @@
-use Rattle.std.proofs.Common.{◌≡◌, ◌∙◌, ◌+◌, ◌∷◌, [], ◌++◌, drop, sym, ap, append_assoc}
+use Rattle.std.proofs.Common.{◌∙◌, ◌+◌, ◌∷◌, [], ◌++◌, drop, sym, ap, append_assoc}
 use Rattle.std.specs.Arc.{arc_value}
 use Rattle.delta_layer.proofs.Layers.{front_layered}
 use Rattle.delta_layer.proofs.Places.{drop_here}

@@ -1,4 +1,4 @@
-use Rattle.std.proofs.Common.{◌≡◌, ◌≤◌, ◌++◌, slice_range}
+use Rattle.std.proofs.Common.{◌≡◌, ◌++◌, slice_range}
 use Rattle.delta_layer.specs.Overlay.{picked, ArePlaces}
 use Rattle.delta_layer.proofs.merge.add_run.Given as goal
 

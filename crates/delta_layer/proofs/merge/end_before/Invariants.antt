@@ -1,4 +1,4 @@
-use Rattle.std.proofs.Common.{◌≡◌, ◌≤◌, ◌+◌, length, drop}
+use Rattle.std.proofs.Common.{◌≡◌, ◌+◌, drop}
 use Rattle.delta_layer.specs.Overlay.{count_before}
 use Rattle.delta_layer.proofs.merge.end_before.Given as goal
 

@@ -1,4 +1,4 @@
-use Rattle.std.proofs.Common.{◌≡◌, ◌∙◌, ◌<◌, length, take, refl, sym, arith}
+use Rattle.std.proofs.Common.{◌∙◌, ◌<◌, length, take, refl, sym, arith}
 use Rattle.flash_types.specs.Ranges.{holds}
 use Rattle.delta_layer.specs.Overlay.{stays, reached}
 use Rattle.column_block.proofs.Ordered.{up_from_rises}

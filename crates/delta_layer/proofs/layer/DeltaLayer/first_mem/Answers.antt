@@ -1,7 +1,7 @@
 use Rattle.std.proofs.Common.{◌∙◌, sym, ap, not}
 use Rattle.column_file.specs.declared.file.ColumnFile.{ColumnFile}
 use Rattle.delta_layer.specs.Files.{is_mem}
-use Rattle.delta_layer.proofs.Places.{prefix_on, prefix_stop, prefix_end}
+use Rattle.delta_layer.proofs.Places.{prefix_on, prefix_stop}
 use Rattle.delta_layer.proofs.layer.DeltaLayer.first_mem.Goals as goal
 
 pub returns-then-is_mem-clause-place : goal.returns-then-is_mem-clause-place
