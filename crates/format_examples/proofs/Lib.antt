@@ -1,0 +1,5 @@
+mod Lists
+mod Files
+mod Stores
+mod Regions
+mod Logs

@@ -1,0 +1,5 @@
+pub mod Lists
+pub mod Files
+pub mod Stores
+pub mod Regions
+pub mod Logs
