@@ -103,6 +103,37 @@ module _ (log : Log) (S : ℕ → ℕ → Bool) (m safe from last : ℕ) where
   say_same s t range_is stable_is same good k begins ends = good_same log (S k) m safe (content k s) (content k t)
       (record { range = range_is; trails = λ h held. (λ i. record { stable = versions_on h (stable_is i); steps = same h held k i }) }) (good k begins ends)
 
+-- ---- the same at one count, for any set and mark
+module _ (log : Log) (A : ℕ → Bool) (m safe k : ℕ) where
+  abbrev Good : TaggedSegment → Type 0
+  Good s = IsGoodSegment log A m safe (content k s)
+
+  abbrev All : List TaggedSegment → Type 0
+  All segments = AreGood log A m safe (map (content k) segments)
+
+  -- the counts from this one to itself, with one set
+  pub one_count : (s : TaggedSegment) → Good s → IsPrefixGood log (λ _. A) m safe k k s
+  one_count s good j begins ends = (let is : k ≡ j = omega (arith, begins, ends) in subst (λ n. IsGoodSegment log A m safe (content n s)) is good)
+
+  all_one : (segments : List TaggedSegment) → All segments → ArePrefixesGood log (λ _. A) m safe k k segments
+  all_one segments good j begins ends = (let is : k ≡ j = omega (arith, begins, ends) in subst (λ n. AreGood log A m safe (map (content n) segments)) is good)
+
+  itself : k ≤ k
+  itself = omega arith
+
+  pub changed_once : (before : List TaggedSegment) (s t : TaggedSegment) (after : List TaggedSegment) → t.range ≡ s.range → (Good s → Good t) → All (before ++ (s ∷ after)) → All (before ++ (t ∷ after))
+  changed_once before s t after same law good = changed log (λ _. A) m safe k k before s t after same (λ was. one_count t (law (was k itself itself))) (all_one (before ++ (s ∷ after)) good) k itself itself
+
+  pub parted_once : (s lower upper : TaggedSegment) → lower.range.low ≡ s.range.low → lower.range.high ≡ Some upper.range.low → upper.range.high ≡ s.range.high → is_below lower.range.low lower.range.high ≡ true → is_below upper.range.low upper.range.high ≡ true →
+      (Good s → Good lower) → (Good s → Good upper) → (before after : List TaggedSegment) → All (before ++ (s ∷ after)) → All (before ++ (lower ∷ upper ∷ after))
+  parted_once s lower upper begins meets ends below above law_lower law_upper before after good =
+      parted log (λ _. A) m safe k k s lower upper begins meets ends below above (λ was. one_count lower (law_lower (was k itself itself))) (λ was. one_count upper (law_upper (was k itself itself))) before after (all_one (before ++ (s ∷ after)) good) k itself itself
+
+  pub merged_once : (left right one : TaggedSegment) → one.range.low ≡ left.range.low → one.range.high ≡ right.range.high → (Good left → Good right → Good one) →
+      (before after : List TaggedSegment) → All (before ++ (left ∷ right ∷ after)) → All (before ++ (one ∷ after))
+  merged_once left right one begins ends law before after good =
+      merged log (λ _. A) m safe k k left right one begins ends (λ l r. one_count one (law (l k itself itself) (r k itself itself))) before after (all_one (before ++ (left ∷ right ∷ after)) good) k itself itself
+
 module _ (log : Log) (lawful : IsLawful log) (S : ℕ → ℕ → Bool) (m safe from last : ℕ) where
   -- a higher mark
   pub mark_up : (n : ℕ) (segments : List TaggedSegment) → m ≤ n → n ≤ length log.entries → ArePrefixesGood log S m safe from last segments → ArePrefixesGood log S n safe from last segments

@@ -17,5 +17,5 @@ pub use files::{
     clipped_files_say_their_part, same_files_keep_counts, same_trails_are_good,
     silent_files_may_stay,
 };
-pub use lists::segments_give_way_at_counts;
+pub use lists::{segments_give_way_at_counts, segments_give_way_at_one_count};
 pub use once::installs_keep_one_count;

@@ -19,10 +19,11 @@ use Rattle.delta_layer.specs.Repacked.{ShowSame, Repacked, Flushed, Compacted, T
 use Rattle.delta_layer.proofs.Blocks.{IsBlock, blocks_show}
 use Rattle.delta_layer.proofs.Layers.{parted}
 use Rattle.prefix_laws.specs.Prefixes.{IsPrefixGood}
-use Rattle.prefix_laws.specs.Tagged.{Tagged, file_in, files_at, tagged_of, with_tag}
+use Rattle.prefix_laws.specs.Tagged.{Tagged, content, file_in, files_at, tagged_of, with_tag}
 use Rattle.prefix_laws.specs.Views.{AreBy}
+use Rattle.prefix_laws.proofs.Replica.{one_count}
 use Rattle.prefix_laws.proofs.Tagging.{at_both, all_by}
-use Rattle.segment_laws.specs.Runs.{IsFirstRun, run_of, with_run}
+use Rattle.segment_laws.specs.Runs.{IsNamedRun, run_of, with_run}
 
 mem_is : (f : ColumnFile) → is_mem f ≡ true → IsBlock f
 mem_is (Mem block) e = tt
@@ -126,12 +127,17 @@ slice_same files layer a b are =
     ∙ take-map file_of (b - a) (drop a layer)
 
 module _ (log : Log) (S : ℕ → ℕ → Bool) (m safe from last : ℕ) (range : HandleRange) (stable : List Version) where
-  pub run_compacts : (files : List Tagged) (layer : List ColumnFile) (a b tag : ℕ) → map file_in files ≡ files_of layer → IsFirstRun layer a b → AreBy from (slice_range files a b) → tag ≤ from →
+  pub run_compacts : (files : List Tagged) (layer : List ColumnFile) (a b tag : ℕ) → IsNamedRun from tag layer a b files →
       IsPrefixGood log S m safe from last (tagged_of range stable files) → IsPrefixGood log S m safe from last (tagged_of range stable (with_run tag layer a b files))
-  run_compacts files layer a b tag are is by le good =
-      compact log S m safe from last range stable (take a files) (drop b files) (slice_range files a b) (with_tag tag (Puts (run_of layer a b))) (slice_range layer a b) (Tiny 0 (run_of layer a b)) by le (slice_same files layer a b are) refl
+  run_compacts files layer a b tag is good =
+      compact log S m safe from last range stable (take a files) (drop b files) (slice_range files a b) (with_tag tag (Puts (run_of layer a b))) (slice_range layer a b) (Tiny 0 (run_of layer a b)) is.by is.one_by (slice_same files layer a b is.are) refl
       blocks (tt {0}) (blocks_show (slice_range layer a b) (Tiny 0 (run_of layer a b)) blocks (tt {0}) refl)
-      (subst (λ fs. IsPrefixGood log S m safe from last (tagged_of range stable fs)) (split_at files a b (omega (arith, is.many))) good)
+      (subst (λ fs. IsPrefixGood log S m safe from last (tagged_of range stable fs)) (split_at files a b (let many = is.run.many in omega (arith, many))) good)
     where
       blocks : AllByRecursion IsBlock (slice_range layer a b)
-      blocks = each_weaker (λ (f : ColumnFile). is_tiny f ≡ true) IsBlock tiny_is (slice_range layer a b) is.tinies
+      blocks = each_weaker (λ (f : ColumnFile). is_tiny f ≡ true) IsBlock tiny_is (slice_range layer a b) is.run.tinies
+
+-- at one count, for any set and mark
+pub run_compacts_once : (log : Log) (A : ℕ → Bool) (m safe k : ℕ) (range : HandleRange) (stable : List Version) (files : List Tagged) (layer : List ColumnFile) (a b tag : ℕ) → IsNamedRun k tag layer a b files →
+    IsGoodSegment log A m safe (content k (tagged_of range stable files)) → IsGoodSegment log A m safe (content k (tagged_of range stable (with_run tag layer a b files)))
+run_compacts_once log A m safe k range stable files layer a b tag is good = run_compacts log (λ _. A) m safe k k range stable files layer a b tag is (one_count log A m safe k (tagged_of range stable files) good) k (omega arith) (omega arith)

@@ -6,5 +6,10 @@ mod installs;
 pub use builds::{
     builds_are_by_their_jobs, compactions_give, delta_merges_give, merges_give, splits_give,
 };
-pub use files::{compactions_keep_counts, flushed_layers_keep_counts, repacked_segments_stay_good};
-pub use installs::{compactions_install, delta_merges_install, merges_install, splits_install};
+pub use files::{
+    compacted_segments_stay_good, flushed_segments_stay_good, repacked_files_keep_counts,
+    repacked_segments_stay_good,
+};
+pub use installs::{
+    compactions_install, delta_merges_install, flushes_install, merges_install, splits_install,
+};

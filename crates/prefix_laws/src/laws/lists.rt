@@ -1,8 +1,9 @@
 // Segments of a list give way to others.
-ghost use Rattle.std.specs.Prelude.{◌≡◌, ◌++◌, ℕ, Bool, List, ◌∷◌};
+ghost use Rattle.std.specs.Prelude.{◌≡◌, ◌++◌, ℕ, Bool, List, ◌∷◌, map};
 ghost use Rattle.committed_log.specs.Log.{Log};
+ghost use Rattle.good_replica.specs.Good.{AreGood, IsGoodSegment};
 ghost use Rattle.prefix_laws.specs.Prefixes.{ArePrefixesGood, IsPrefixGood};
-ghost use Rattle.prefix_laws.specs.Tagged.{TaggedSegment};
+ghost use Rattle.prefix_laws.specs.Tagged.{TaggedSegment, content};
 ghost use Rattle.prefix_laws.specs.Views.{IsParted};
 
 /// In a list a segment gives way to one with its range, or to two that part its range, or two give
@@ -31,4 +32,30 @@ pub fn segments_give_way_at_counts()
         → (before after : List TaggedSegment)
         → ArePrefixesGood log S m safe from last (before ++ (left ∷ right ∷ after))
         → ArePrefixesGood log S m safe from last (before ++ (one ∷ after)) }
+{}
+
+/// The same at one count, for any set of applied entries and any mark.
+pub fn segments_give_way_at_one_count()
+    ensures one { (log : Log) (A : ℕ → Bool) (m safe k : ℕ)
+        → (before : List TaggedSegment) (s t : TaggedSegment) (after : List TaggedSegment)
+        → t.range ≡ s.range
+        → (IsGoodSegment log A m safe (content k s) → IsGoodSegment log A m safe (content k t))
+        → AreGood log A m safe (map (content k) (before ++ (s ∷ after)))
+        → AreGood log A m safe (map (content k) (before ++ (t ∷ after))) }
+    ensures two { (log : Log) (A : ℕ → Bool) (m safe k : ℕ) (s lower upper : TaggedSegment)
+        → IsParted s.range lower.range upper.range
+        → (IsGoodSegment log A m safe (content k s) → IsGoodSegment log A m safe (content k lower))
+        → (IsGoodSegment log A m safe (content k s) → IsGoodSegment log A m safe (content k upper))
+        → (before after : List TaggedSegment)
+        → AreGood log A m safe (map (content k) (before ++ (s ∷ after)))
+        → AreGood log A m safe (map (content k) (before ++ (lower ∷ upper ∷ after))) }
+    ensures joined { (log : Log) (A : ℕ → Bool) (m safe k : ℕ) (left right one : TaggedSegment)
+        → one.range.low ≡ left.range.low
+        → one.range.high ≡ right.range.high
+        → (IsGoodSegment log A m safe (content k left)
+        → IsGoodSegment log A m safe (content k right)
+        → IsGoodSegment log A m safe (content k one))
+        → (before after : List TaggedSegment)
+        → AreGood log A m safe (map (content k) (before ++ (left ∷ right ∷ after)))
+        → AreGood log A m safe (map (content k) (before ++ (one ∷ after))) }
 {}
