@@ -1,0 +1,6 @@
+pub mod Tagged
+pub mod Clipped
+pub mod Slots
+pub mod Laws
+pub mod Order
+pub mod Lists
