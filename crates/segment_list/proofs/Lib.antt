@@ -10,3 +10,4 @@ pub mod Halves
 pub mod Places
 pub mod Listed
 pub mod Rows
+pub mod Flushing

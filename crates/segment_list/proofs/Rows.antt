@@ -4,7 +4,7 @@ use Rattle.std.specs.Prelude.{slice_get}
 use Rattle.std.specs.List.{sum_by}
 use Rattle.std.proofs.lemmas.List.Sums.{sum_by_push}
 
-one_more : {X : Type 0} (xs : List X) (i : ℕ) (x : X) → slice_get xs i ≡ Some x → take (suc i) xs ≡ take i xs ++ x ∷ []
+pub one_more : {X : Type 0} (xs : List X) (i : ℕ) (x : X) → slice_get xs i ≡ Some x → take (suc i) xs ≡ take i xs ++ x ∷ []
 one_more [] i x e = absurd (cc e)
 one_more {X = X} (y ∷ ys) zero x e = (let same : y ≡ x = cc in ap (λ (z : X). z ∷ []) same)
 one_more {X = X} (y ∷ ys) (suc i) x e = ap (λ (r : List X). y ∷ r) (one_more ys i x e)

@@ -1,5 +1,5 @@
 -- Laws of what the files of slots say.
-use Rattle.std.specs.Prelude.{◌≡◌, ◌≤◌, ◌<◌, ℕ, ℤ, true, Option, List, ◌++◌, length, map, position, is_some, int_le, slice_index_or}
+use Rattle.std.specs.Prelude.{◌≡◌, ◌⊎◌, ◌≤◌, ◌<◌, ℕ, ℤ, true, Option, List, ◌++◌, length, map, position, is_some, int_le, slice_index_or}
 use Rattle.column_block.specs.declared.cell.Version.{Version}
 use Rattle.column_file.specs.declared.file.ColumnFile.{ColumnFile}
 use Rattle.flash_types.specs.declared.range.HandleRange.{HandleRange}
@@ -9,6 +9,8 @@ use Rattle.stable_file.specs.declared.file.StableFile.{StableFile}
 use Rattle.std.specs.List.{AllByRecursion}
 use Rattle.segment_list.specs.Clipped.{absorb, clip}
 use Rattle.segment_list.specs.Tagged.{TaggedSegment}
+use Rattle.delta_layer.specs.Repacked.{Repacked}
+use Rattle.segment_list.specs.Flushes.{flushed_files, flushed_slot}
 use Rattle.segment_list.specs.Lists.{range_alone}
 use Rattle.segment_list.specs.Order.{IsSlot}
 use Rattle.segment_list.specs.Slots.{Slotted, IsTagged, absorbed, told_of, told_one, tagged, clip_pairs, pairs_of, Gathered, with_pairs}
@@ -41,3 +43,11 @@ AbsorbedListsSayTheEntry G = (tag : ℕ) (clears : Option HandleRange) (adds : L
 -- What is gathered of files says what they said, clipped.
 abbrev pub GatheredFilesSayTheirPart : Type 0
 GatheredFilesSayTheirPart = (range : HandleRange) (r : Gathered) (tags : List ℕ) (files : List ColumnFile) → length r.files ≡ length r.tags → (tagged (with_pairs r (clip_pairs range (pairs_of tags files))).tags (with_pairs r (clip_pairs range (pairs_of tags files))).files ≡ tagged r.tags r.files ++ clip range (tagged tags files)) × (length (with_pairs r (clip_pairs range (pairs_of tags files))).files ≡ length (with_pairs r (clip_pairs range (pairs_of tags files))).tags)
+
+-- The files of a flushed delta came from it by flushes, or are the same.
+abbrev pub FlushedFilesAreRepacked : Type 0
+FlushedFilesAreRepacked = (n : ℕ) (files : List ColumnFile) → Repacked files (flushed_files n files) ⊎ (flushed_files n files ≡ files)
+
+-- A slot that was in order is so once it is flushed, whatever was committed and applied since, for it has no tag.
+abbrev pub FlushedSlotsAreInOrder : Type 0 → Type 0
+FlushedSlotsAreInOrder G = (committed last after latest n : ℕ) (s : Slotted G) → IsSlot committed last s → IsSlot after latest (flushed_slot n s)

@@ -4,3 +4,4 @@ pub mod Slots
 pub mod Laws
 pub mod Order
 pub mod Lists
+pub mod Flushes

@@ -1,5 +1,5 @@
 // Laws of what files say, which callers may use. They do nothing when they run.
-ghost use Rattle.segment_list.specs.Laws.{AbsorbedListsSayTheEntry, AbsorbedSlotsSayTheEntry, AbsorbedSlotsStayInOrder, ClippedFilesSayTheirPart, CoveredHandlesHaveASlot, GatheredFilesSayTheirPart, OneSlotHasAHandle};
+ghost use Rattle.segment_list.specs.Laws.{AbsorbedListsSayTheEntry, AbsorbedSlotsSayTheEntry, AbsorbedSlotsStayInOrder, ClippedFilesSayTheirPart, CoveredHandlesHaveASlot, FlushedFilesAreRepacked, FlushedSlotsAreInOrder, GatheredFilesSayTheirPart, OneSlotHasAHandle};
 
 /// What a slot's files say after an entry, with their tags, is what they said with the entry's two
 /// files behind, clipped to the slot, where these say something.
@@ -35,4 +35,14 @@ pub fn absorbed_lists_say_the_entry<G>()
 /// Files that are gathered say what they said, clipped.
 pub fn gathered_files_say_their_part()
     ensures { GatheredFilesSayTheirPart }
+{}
+
+/// The files of a flushed delta came from it by flushes, or are the same where no block was in memory.
+pub fn flushed_files_are_repacked()
+    ensures { FlushedFilesAreRepacked }
+{}
+
+/// A slot that was in order is so once it is flushed.
+pub fn flushed_slots_are_in_order<G>()
+    ensures { FlushedSlotsAreInOrder G }
 {}

@@ -1,5 +1,6 @@
 // The segments of a replica: slots that cover all handles.
-ghost use Rattle.std.specs.Prelude.{◌≡◌, ◌≢◌, ◌==◌, ℕ, cond, List, map, position, Some, IfOk, OnOk, OnErr};
+ghost use Rattle.std.specs.Prelude.{◌≡◌, ◌≢◌, ◌==◌, ◌-◌, ◌^◌, ◌<◌, ℕ, cond, List, length, map, position, set, slice_get, Some, IfOk, OnOk, OnErr};
+ghost use Rattle.segment_list.specs.Flushes.{IsFlushOf, flushed_slot};
 ghost use Rattle.std.specs.List.{All, AllPairs};
 ghost use Rattle.std.specs.BTreeMap.{get, is_at};
 ghost use Rattle.std.specs.Ordering.{nat_cmp};
@@ -9,9 +10,11 @@ ghost use Rattle.segment_list.specs.Lists.{Cover, range_alone};
 ghost use Rattle.segment_list.specs.Slots.{Slotted, absorbed, key_of};
 
 use crate::Memory;
+use crate::flush::{Flush, flush_of};
 use crate::list::{absorb_within, place_within, take_back_within};
 use crate::slot::Slot;
 use column_block::Block;
+use flash_io::FileId;
 use flash_types::{Handle, HandleRange, SegId};
 use std::alloc::Global;
 use std::collections::BTreeMap;
@@ -98,6 +101,17 @@ fn take_back_slots<G: Drop>(slots: &mut Vec<Slot<G>>, clears: Option<HandleRange
     take_back_within(slots.as_mut_slice(), all, clears, adds);
 }
 
+// Puts a flush of the slot at a place.
+fn put_at<G: Drop>(slots: &mut Vec<Slot<G>>, place: usize, flush: Flush)
+    requires within { place < length slots.old.items }
+    requires planned { (s : Slotted G) → slice_get slots.old.items place ≡ Some s → IsFlushOf s.files flush }
+    requires room { (s : Slotted G) → slice_get slots.old.items place ≡ Some s → s.epoch < 2 ^ 64 - 1 }
+    ensures keys { map key_of slots.new.items ≡ map key_of slots.old.items }
+    ensures put { (s : Slotted G) → slice_get slots.old.items place ≡ Some s → slots.new.items ≡ set slots.old.items place (flushed_slot flush.from s) }
+{
+    slots[place].put_flush(flush);
+}
+
 // The place of the slot that holds a handle, of slots that have all of them.
 fn place_of<G: Drop>(slots: &[Slot<G>], handle: Handle) -> Option<usize>
     requires { Cover all_handles slots.now }
@@ -178,5 +192,26 @@ impl<G: Drop> SegmentList<G> {
         ensures { (before : List (Slotted G)) (tag : ℕ) → self.old ≡ map (absorbed tag clears adds.now) before → self.new ≡ before }
     {
         take_back_slots(&mut self.slots, clears, adds);
+    }
+
+    /// A flush of the slot at a place, whose blocks in memory get the numbers from this one on.
+    /// `Memory` comes too where the numbers don't suffice.
+    pub fn plan_flush(&self, place: usize, from: FileId, alloc: Global) -> Result<Flush, Memory>
+        requires { place < length self.now }
+        ensures from { IfOk result (λ flush. flush.from ≡ from) }
+        ensures flush { IfOk result (λ flush. (s : Slotted G) → slice_get self.now place ≡ Some s → IsFlushOf s.files flush) }
+    {
+        flush_of(self.slots[place].layer(), from, alloc)
+    }
+
+    /// Puts a flush of the slot at a place: its blocks in memory are tiny files then, and all of its
+    /// delta is named. It takes no memory.
+    pub fn put_flush(&mut self, place: usize, flush: Flush)
+        requires within { place < length self.old }
+        requires planned { (s : Slotted G) → slice_get self.old place ≡ Some s → IsFlushOf s.files flush }
+        requires room { (s : Slotted G) → slice_get self.old place ≡ Some s → s.epoch < 2 ^ 64 - 1 }
+        ensures { (s : Slotted G) → slice_get self.old place ≡ Some s → self.new ≡ set self.old place (flushed_slot flush.from s) }
+    {
+        put_at(&mut self.slots, place, flush);
     }
 }

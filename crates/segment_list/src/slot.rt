@@ -1,12 +1,14 @@
 // A segment with what of it is named and when its files came.
-ghost use Rattle.std.specs.Prelude.{◌≡◌, ◌+◌, ℕ, Option, false, [], OnOk, OnErr, IfOk, IfSome, length, is_some, option_copied};
-ghost use Rattle.std.specs.List.{sum_by};
+ghost use Rattle.std.specs.Prelude.{◌≡◌, ◌+◌, ◌-◌, ◌^◌, ◌<◌, ℕ, cond, Option, false, [], OnOk, OnErr, IfOk, IfSome, length, is_some, option_copied};
+ghost use Rattle.std.specs.List.{list_any, sum_by};
 ghost use Rattle.column_file.specs.declared.file.ColumnFile.{ColumnFile};
-ghost use Rattle.delta_layer.specs.Files.{is_tiny};
+ghost use Rattle.delta_layer.specs.Files.{is_mem, is_tiny};
+ghost use Rattle.segment_list.specs.Flushes.{IsFlushOf, flushed_files, flushed_slot};
 ghost use Rattle.segment_list.specs.Slots.{Slotted, absorbed, file_rows, key_of, mem_rows, pushed, pushed_some, rows_below};
 
 use crate::Memory;
 use crate::clip::{added_in, adds_to, cleared_in, file_rows, mem_rows};
+use crate::flush::{Flush, is_mem};
 use column_block::Block;
 use column_file::ColumnFile;
 use delta_layer::{DeltaLayer, SegmentView};
@@ -70,6 +72,30 @@ fn rows_below<G: Drop>(range: HandleRange, stable: Option<&StableFile<G>>) -> u6
         None => 0,
         Some(file) => file.versions_in(range),
     }
+}
+
+// Whether a layer has a block in memory.
+fn has_mem(layer: &DeltaLayer) -> bool
+    ensures { result ≡ list_any is_mem layer.now }
+{
+    for i in 0..layer.files() {
+        if is_mem(layer.file(i)) {
+            return true;
+        }
+    }
+    false
+}
+
+// Puts a flush of a segment's delta.
+fn renew<G: Drop>(segment: &mut Segment<G>, flush: Flush)
+    requires planned { IsFlushOf segment.old.layer flush }
+    requires room { segment.old.epoch < 2 ^ 64 - 1 }
+    ensures { segment.new ≡ record segment.old { epoch = cond (list_any is_mem segment.old.layer) (segment.old.epoch + 1) segment.old.epoch; layer = flushed_files flush.from segment.old.layer } }
+{
+    if !has_mem(segment.layer()) {
+        return;
+    }
+    segment.renew(flush.layer);
 }
 
 impl<G: Drop> Slot<G> {
@@ -281,5 +307,19 @@ impl<G: Drop> Slot<G> {
         let range = self.range();
         self.pop_some(adds_to(range, adds));
         self.pop_some(cleared_in(range, clears).is_some());
+    }
+
+    /// Puts a flush of its delta, all of which is named then. The epoch rises by 1 where the delta
+    /// had a block in memory. It takes no memory.
+    pub fn put_flush(&mut self, flush: Flush)
+        requires planned { IsFlushOf self.old.files flush }
+        requires room { self.old.epoch < 2 ^ 64 - 1 }
+        ensures { self.new ≡ flushed_slot flush.from self.old }
+    {
+        let named = self.segment.layer().files();
+        renew(&mut self.segment, flush);
+        self.named = named;
+        self.tags.truncate(0);
+        self.mem = 0;
     }
 }
