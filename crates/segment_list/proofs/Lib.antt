@@ -1,0 +1,13 @@
+pub mod Pushes
+pub mod Telling
+pub mod Orders
+pub mod Gathers
+pub mod Covers
+pub mod GatheredLaw
+pub mod KeptVersions
+pub mod Insides
+pub mod Halves
+pub mod Places
+pub mod Listed
+pub mod Rows
+pub mod Flushing
