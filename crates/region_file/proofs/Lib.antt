@@ -8,3 +8,4 @@ pub mod KeysRise
 pub mod FamiliesAgain
 pub mod RegionAgain
 pub mod FileAgain
+pub mod Alike

@@ -18,6 +18,7 @@ mod field;
 mod laws;
 mod put;
 mod reading;
+mod same;
 mod taken;
 
 pub use entry::{Entries, Entry};
@@ -25,3 +26,4 @@ pub use fault::TableError;
 pub use laws::files_are_read_again;
 pub use put::write_regions;
 pub use reading::read_regions;
+pub use same::same_regions;

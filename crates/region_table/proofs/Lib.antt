@@ -14,7 +14,6 @@ pub mod Parsed
 pub mod Effected
 pub mod Nexts
 pub mod Empty
-pub mod Alike
 pub mod Agreeing
 pub mod Apart
 pub mod TableAgain

@@ -49,6 +49,10 @@ prepare_index log p _ = 0
 abbrev pub apply_fault : Log → (ℕ → Bool) → ℕ → Entry → Option ApplyError
 apply_fault log A p e = fault_by log (applied log A) (A p) (first_out log A) (prepare_index log p e.body) p e
 
+-- it is why the entry at position p can't be applied, if it can't, where the entries of the set are
+abbrev pub IsFaultAt : Log → (ℕ → Bool) → ℕ → Option ApplyError → Type 0
+IsFaultAt log A p found = (e : Entry) → slice_get log.entries p ≡ Some e → found ≡ apply_fault log A p e
+
 -- a region with this last index hasn't come to the index that is wanted
 abbrev pub IsBehind : Option ℕ → ℕ → Type 0
 IsBehind None wants = Unit {0}

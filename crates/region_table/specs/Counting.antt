@@ -1,9 +1,10 @@
 -- Which entries are applied, by the indexes of a table's regions.
 use Rattle.std.specs.Prelude.{◌≡◌, ℕ, ◌<◌, ◌≤◌, Bool, true, false, Option, Some, None, List, nat_le}
-use Rattle.committed_log.specs.Applied.{entry_is}
+use Rattle.committed_log.specs.Applied.{entry_is, with_position}
 use Rattle.committed_log.specs.Log.{Log}
 use Rattle.committed_log.specs.Regions.{index_of}
-use Rattle.region_table.specs.Table.{Kept, state_in}
+use Rattle.region_table.specs.Table.{Kept, IsCounted, state_in}
+use Rattle.region_table.specs.declared.table.Counted.{Counted}
 
 -- whether a region with this last index has come to an index
 abbrev pub has_reached : Option ℕ → ℕ → Bool
@@ -20,3 +21,8 @@ pub record IsFirstFrom (t : ℕ → Bool) (from end first : ℕ) : Type 0 where
   pub within : first ≤ end
   pub passed : (q : ℕ) → from ≤ q → q < first → t q ≡ true
   pub out : first < end → t first ≡ false
+
+-- where the position isn't in a set, and is in the set that these regions tell: what is counted becomes that of the set with it
+abbrev pub CountsOne : Log → List (ℕ × Kept) → ℕ → Counted → Counted → Type 0
+CountsOne log regions p old new =
+    (A : ℕ → Bool) → IsCounted log A old → A p ≡ false → ((q : ℕ) → applied_in log regions q ≡ with_position A p q) → IsCounted log (with_position A p) new

@@ -9,3 +9,5 @@ pub mod Nexts
 pub mod Live
 pub mod Agreeing
 pub mod Opening
+pub mod Lawful
+pub mod Examples

@@ -6,12 +6,14 @@ use Rattle.std.specs.List.{list_all}
 use Rattle.std.specs.Ordering.{nat_cmp}
 use Rattle.flash_types.specs.Ranges.{holds, is_below, touch}
 use Rattle.flash_types.specs.declared.Epoch.{Epoch}
+use Rattle.flash_types.specs.declared.range.HandleRange.{HandleRange}
 use Rattle.raft_apply.specs.declared.command.Command.{Command}
 use Rattle.raft_apply.specs.declared.command.Command.TheVariants as command
+use Rattle.raft_apply.specs.declared.command.Parsed.{Parsed}
 use Rattle.region_file.specs.declared.entry.Entry.TheVariants as kept
 use Rattle.region_state.specs.Folding.{folded, lies_in}
 use Rattle.region_state.specs.State.{State, born, prepared, lower_of, upper_of, absorbed}
-use Rattle.region_table.specs.Table.{Kept}
+use Rattle.region_table.specs.Table.{Kept, kept_in}
 
 -- what is kept of each region
 abbrev pub Keeps : Type 0
@@ -31,16 +33,69 @@ abbrev pub written : Kept → ℕ → List FamilyOp → Kept
 written (kept.Gone last) index ops = kept.Gone last
 written (kept.There s) index ops = kept.There (folded s index ops)
 
+-- ---- what a step does to what is kept
+
+-- a region that is there is kept as this makes it, and nothing changes where it isn't
+abbrev pub where_there : ℕ → (State → Keeps → Keeps) → Keeps → Keeps
+where_there r g f = if_there (f r) (λ s. g s f) f
+
+-- region r is kept in this way
+abbrev pub putting : ℕ → Kept → Keeps → Keeps
+putting r k f = changed f r k
+
+-- region r is there as this, or is gone with this last index
+abbrev pub bearing : ℕ → State → Keeps → Keeps
+bearing r s = putting r (kept.There s)
+
+abbrev pub ending : ℕ → ℕ → Keeps → Keeps
+ending r index = putting r (kept.Gone index)
+
+abbrev pub installing : ℕ → ℕ → Epoch → HandleRange → List FamilyOp → Keeps → Keeps
+installing r index epoch range ops = bearing r (folded (born range epoch index) index ops)
+
+abbrev pub writing : ℕ → ℕ → List FamilyOp → Keeps → Keeps
+writing r index ops = where_there r (λ s. bearing r (folded s index ops))
+
+abbrev pub splitting : ℕ → ℕ → ℤ → ℕ → Keeps → Keeps
+splitting r index at child =
+    where_there r (λ s f. bearing r (lower_of s at index) (bearing child (upper_of s at) f))
+
+abbrev pub preparing : ℕ → ℕ → ℕ → Keeps → Keeps
+preparing r index target = where_there r (λ s. bearing r (prepared s target index))
+
+abbrev pub merging : ℕ → ℕ → State → Keeps → Keeps
+merging r index other = where_there r (λ s. bearing r (absorbed s other index))
+
+-- the source is gone, and keeps its last index
+abbrev pub committing : ℕ → ℕ → ℕ → Keeps → Keeps
+committing r index source =
+    where_there r (λ s. where_there source (λ other f. ending source other.descriptor.index (bearing r (absorbed s other index) f)))
+
 -- what is kept after an entry of region r with this index
 abbrev pub kept_after : Keeps → ℕ → ℕ → Command → Keeps
-kept_after f r index (command.Open epoch range) = changed f r (kept.There (born range epoch index))
-kept_after f r index (command.Write ops) = if_there (f r) (λ s. changed f r (kept.There (folded s index ops))) f
-kept_after f r index (command.Split at child) = if_there (f r) (λ s. changed (changed f child (kept.There (upper_of s at))) r (kept.There (lower_of s at index))) f
-kept_after f r index (command.Prepare target) = if_there (f r) (λ s. changed f r (kept.There (prepared s target index))) f
-kept_after f r index (command.Commit source) = if_there (f r) (λ s. if_there (f source) (λ other. changed (changed f r (kept.There (absorbed s other index))) source (kept.Gone other.descriptor.index)) f) f
-kept_after f r index command.Remove = changed f r (kept.Gone index)
-kept_after f r index (command.Install epoch range ops) = changed f r (kept.There (folded (born range epoch index) index ops))
-kept_after f r index command.Empty = if_there (f r) (λ s. changed f r (kept.There (folded s index []))) f
+kept_after f r index (command.Open epoch range) = bearing r (born range epoch index) f
+kept_after f r index (command.Write ops) = writing r index ops f
+kept_after f r index (command.Split at child) = splitting r index at child f
+kept_after f r index (command.Prepare target) = preparing r index target f
+kept_after f r index (command.Commit source) = committing r index source f
+kept_after f r index command.Remove = ending r index f
+kept_after f r index (command.Install epoch range ops) = installing r index epoch range ops f
+kept_after f r index command.Empty = writing r index [] f
+
+abbrev pub stepping : ℕ → ℕ → Command → Keeps → Keeps
+stepping r index c f = kept_after f r index c
+
+-- the regions of a table become what the step makes of them
+abbrev pub Become : List (ℕ × Kept) → List (ℕ × Kept) → (Keeps → Keeps) → Type 0
+Become old new step = (q : ℕ) → kept_in new q ≡ step (kept_in old) q
+
+-- or each is kept as it was
+abbrev pub AreKept : List (ℕ × Kept) → List (ℕ × Kept) → Type 0
+AreKept old new = (q : ℕ) → kept_in new q ≡ kept_in old q
+
+-- the regions become those after the entry
+abbrev pub BecomeAfter : Parsed → List (ℕ × Kept) → List (ℕ × Kept) → Type 0
+BecomeAfter x old new = Become old new (stepping x.region x.index x.command)
 
 -- ---- when an entry can be done: a lawful log has no other
 
@@ -71,12 +126,24 @@ pub record CanMerge (s other : State) : Type 0 where
   pub rises : CanRise s.descriptor.epoch
   pub other_rises : CanRise other.descriptor.epoch
 
+-- the changes lie in the region
+abbrev pub CanWrite : Option Kept → List FamilyOp → Type 0
+CanWrite k ops = IfThere k (λ s. list_all (lies_in s.descriptor.range) ops ≡ true)
+
+-- the region can take the other, where both are there
+abbrev pub CanTake : Option Kept → Option Kept → Type 0
+CanTake k other = IfThere k (λ s. IfThere other (λ o. CanMerge s o))
+
 abbrev pub CanBeDone : Keeps → ℕ → Command → Type 0
 CanBeDone f r (command.Open epoch range) = Unit {0}
-CanBeDone f r (command.Write ops) = IfThere (f r) (λ s. list_all (lies_in s.descriptor.range) ops ≡ true)
+CanBeDone f r (command.Write ops) = CanWrite (f r) ops
 CanBeDone f r (command.Split at child) = (child ≢ r) × (f child ≡ None) × IfThere (f r) (λ s. CanSplit s at)
 CanBeDone f r (command.Prepare target) = IfThere (f r) (λ s. CanRise s.descriptor.epoch)
-CanBeDone f r (command.Commit source) = (source ≢ r) × IfThere (f r) (λ s. IfThere (f source) (λ other. CanMerge s other))
+CanBeDone f r (command.Commit source) = (source ≢ r) × CanTake (f r) (f source)
 CanBeDone f r command.Remove = Unit {0}
 CanBeDone f r (command.Install epoch range ops) = list_all (lies_in range) ops ≡ true
 CanBeDone f r command.Empty = Unit {0}
+
+-- the entry can be done to these regions
+abbrev pub CanDo : Parsed → List (ℕ × Kept) → Type 0
+CanDo x regions = CanBeDone (kept_in regions) x.region x.command

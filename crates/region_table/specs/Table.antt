@@ -110,6 +110,9 @@ AtItsSet log t P = (A : ℕ → Bool) → IsTableAt log A t → P A
 abbrev pub IsReady : Log → Table → ℕ → Type 0
 IsReady log t p = AtItsSet log t (λ A. is_ready log A p ≡ true)
 
+abbrev pub IsUnready : Log → Table → ℕ → Type 0
+IsUnready log t p = AtItsSet log t (λ A. is_ready log A p ≡ false)
+
 -- the table `new` is that of the log where the entry at position p is applied besides
 abbrev pub HasApplied : Log → ℕ → Table → Table → Type 0
 HasApplied log p old new = AtItsSet log old (λ A. IsTableAt log (with_position A p) new)

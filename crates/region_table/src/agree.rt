@@ -1,20 +1,19 @@
 // Whether a table is that of a log.
 ghost use Rattle.std.specs.Bool.{Decides};
-ghost use Rattle.std.specs.Prelude.{◌≡◌, ◌<◌, ◌+◌, ℕ, Bool, true, false, None, length, IfOk, IfSome};
-ghost use Rattle.committed_log.specs.Applied.{IsClosed, is_ready};
+ghost use Rattle.std.specs.Prelude.{◌≡◌, ◌<◌, ◌+◌, true, false, None, length, IfOk, IfSome};
 ghost use Rattle.raft_apply.specs.Entries.{IsParsed};
-ghost use Rattle.region_table.specs.Agreeing.{below};
-ghost use Rattle.region_table.specs.Counting.{applied_in};
-ghost use Rattle.region_table.specs.Table.{IsTableAt, HasApplied, AtItsSet, Agrees};
+ghost use Rattle.region_table.specs.Agreeing.{IsAnew, IsAnewUpTo, TellNoSet};
+ghost use Rattle.region_table.specs.Table.{HasApplied, IsUnready, Agrees};
 
 use crate::counting::is_applied;
 use crate::fault::ApplyError;
 use crate::laws::empty_tables_agree;
-use crate::same::{same_counted, same_positions, same_regions};
+use crate::same::{same_counted, same_positions};
 use crate::table::{RegionTable, Regions};
 use column_block::Memory;
 use committed_log::Logs;
 use raft_apply::{Parsed, parse};
+use region_file::same_regions;
 use std::alloc::Global;
 
 // Applies an entry, and tells whether it was ready.
@@ -22,7 +21,7 @@ fn apply_parsed(table: &mut RegionTable, logs: &Logs, parsed: &Parsed) -> Result
     requires parsed { IsParsed logs.now parsed.now }
     requires agrees { Agrees logs.now table.old }
     ensures yes { IfOk result (λ b. b ≡ true → HasApplied logs.now parsed.now.position table.old table.new) }
-    ensures no { IfOk result (λ b. b ≡ false → AtItsSet logs.now table.old (λ A. is_ready logs.now A parsed.now.position ≡ false)) }
+    ensures no { IfOk result (λ b. b ≡ false → IsUnready logs.now table.old parsed.now.position) }
 {
     logs.told_lawful();
     match table.apply(logs, parsed) {
@@ -43,9 +42,9 @@ fn apply_next(
     position: u64,
 ) -> Result<bool, Memory>
     requires within { position < length logs.now.entries }
-    requires before { IsTableAt logs.now (below position (applied_in logs.now regions.now.entries)) table.old }
-    ensures yes { IfOk result (λ b. b ≡ true → IsTableAt logs.now (below (position + 1) (applied_in logs.now regions.now.entries)) table.new) }
-    ensures no { IfOk result (λ b. b ≡ false → IsClosed logs.now (applied_in logs.now regions.now.entries) → ⊥) }
+    requires before { IsAnewUpTo logs.now regions.now.entries position table.old }
+    ensures yes { IfOk result (λ b. b ≡ true → IsAnewUpTo logs.now regions.now.entries (position + 1) table.new) }
+    ensures no { IfOk result (λ b. b ≡ false → TellNoSet logs.now regions.now.entries) }
 {
     if !is_applied(logs, regions, position) {
         return Ok(true);
@@ -63,8 +62,8 @@ pub fn applied_anew(
     logs: &Logs,
     regions: &Regions,
 ) -> Result<Option<RegionTable>, Memory>
-    ensures some { IfOk result (λ found. IfSome found (IsTableAt logs.now (applied_in logs.now regions.now.entries))) }
-    ensures none { IfOk result (λ found. found ≡ None → IsClosed logs.now (applied_in logs.now regions.now.entries) → ⊥) }
+    ensures some { IfOk result (λ found. IfSome found (IsAnew logs.now regions.now.entries)) }
+    ensures none { IfOk result (λ found. found ≡ None → TellNoSet logs.now regions.now.entries) }
 {
     empty_tables_agree();
     let mut table = RegionTable::empty(alloc);
@@ -81,8 +80,8 @@ pub fn applied_anew(
 impl RegionTable {
     // Whether it has what the table has to which its entries were applied anew.
     fn is_same(&self, logs: &Logs, anew: &RegionTable) -> bool
-        requires { IsTableAt logs.now (applied_in logs.now self.now.regions) anew.now }
-        ensures { Decides result (IsTableAt logs.now (applied_in logs.now self.now.regions) self.now) }
+        requires { IsAnew logs.now self.now.regions anew.now }
+        ensures { Decides result (IsAnew logs.now self.now.regions self.now) }
     {
         let _logs = logs.len();
         // Give the proof that both have their regions and their next entries in order.

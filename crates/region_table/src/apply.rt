@@ -1,13 +1,12 @@
 // Entries that are applied.
-ghost use Rattle.std.specs.Prelude.{◌≡◌, ◌<◌, ◌≤◌, ◌+◌, ℕ, Bool, false, Some, length, OnOk, OnErr, IfErr};
-ghost use Rattle.committed_log.specs.Applied.{with_position};
+ghost use Rattle.std.specs.Prelude.{◌≡◌, ◌<◌, ◌≤◌, ◌+◌, Some, length, OnOk, OnErr, IfErr};
 ghost use Rattle.raft_apply.specs.Entries.{IsParsed};
 ghost use Rattle.region_table.specs.Applying.{IsCause};
-ghost use Rattle.region_table.specs.Counting.{applied_in, IsFirstFrom};
-ghost use Rattle.region_table.specs.Nexts.{minus, nexts_after};
-ghost use Rattle.region_table.specs.Steps.{kept_after, CanBeDone};
+ghost use Rattle.region_table.specs.Counting.{applied_in, CountsOne, IsFirstFrom};
+ghost use Rattle.region_table.specs.Nexts.{minus, minus_both, NextsAfter, NextsAre};
+ghost use Rattle.region_table.specs.Steps.{BecomeAfter, CanDo};
 ghost use Rattle.region_table.specs.declared.fault.ApplyError.TheVariants as fault;
-ghost use Rattle.region_table.specs.Table.{kept_in, next_in, IsCounted, IsReady, HasApplied, Agrees};
+ghost use Rattle.region_table.specs.Table.{next_in, IsReady, HasApplied, Agrees};
 
 use crate::counting::is_applied;
 use crate::fault::ApplyError;
@@ -36,7 +35,7 @@ fn next_out(logs: &Logs, regions: &Regions, from: u64) -> u64
 fn count_one(logs: &Logs, regions: &Regions, counted: Counted, position: u64) -> Counted
     requires within { position < length logs.now.entries }
     requires room { counted.count < length logs.now.entries }
-    ensures { (A : ℕ → Bool) → IsCounted logs.now A counted → A position ≡ false → ((q : ℕ) → applied_in logs.now regions.now.entries q ≡ with_position A position q) → IsCounted logs.now (with_position A position) result }
+    ensures { CountsOne logs.now regions.now.entries position counted result }
 {
     let end = logs.len();
     let count = counted.count + 1;
@@ -54,8 +53,8 @@ fn count_one(logs: &Logs, regions: &Regions, counted: Counted, position: u64) ->
 
 // Does to the regions what an entry does, or leaves them for want of memory.
 fn change(alloc: Global, regions: &mut Regions, parsed: &Parsed) -> Result<(), Memory>
-    requires { CanBeDone (kept_in regions.old.entries) parsed.now.region parsed.now.command }
-    ensures ok { OnOk result ((q : ℕ) → kept_in regions.new.entries q ≡ kept_after (kept_in regions.old.entries) parsed.now.region parsed.now.index parsed.now.command q) }
+    requires { CanDo parsed.now regions.old.entries }
+    ensures ok { OnOk result (BecomeAfter parsed.now regions.old.entries regions.new.entries) }
     ensures err { OnErr result (regions.new.entries ≡ regions.old.entries) }
 {
     let _before = regions.len();
@@ -77,11 +76,11 @@ fn change_added(
     parsed: &Parsed,
     new: Added,
 ) -> Result<(), Memory>
-    requires { CanBeDone (kept_in regions.old.entries) parsed.now.region parsed.now.command }
-    ensures regions { OnOk result ((q : ℕ) → kept_in regions.new.entries q ≡ kept_after (kept_in regions.old.entries) parsed.now.region parsed.now.index parsed.now.command q) }
-    ensures nexts { OnOk result ((q : ℕ) → next_in nexts.new.entries q ≡ minus (Some parsed.now.position) (next_in nexts.old.entries) q) }
+    requires { CanDo parsed.now regions.old.entries }
+    ensures regions { OnOk result (BecomeAfter parsed.now regions.old.entries regions.new.entries) }
+    ensures nexts { OnOk result (NextsAre nexts.new.entries (minus (Some parsed.now.position) (next_in nexts.old.entries))) }
     ensures err { OnErr result (regions.new.entries ≡ regions.old.entries) }
-    ensures back { OnErr result ((q : ℕ) → next_in nexts.new.entries q ≡ minus new.own (minus new.child (next_in nexts.old.entries)) q) }
+    ensures back { OnErr result (NextsAre nexts.new.entries (minus_both new (next_in nexts.old.entries))) }
 {
     match change(alloc, regions, parsed) {
         Ok(()) => {
@@ -103,9 +102,9 @@ fn advance(
     nexts: &mut Positions,
     parsed: &Parsed,
 ) -> Result<(), Memory>
-    requires { CanBeDone (kept_in regions.old.entries) parsed.now.region parsed.now.command }
-    ensures regions { OnOk result ((q : ℕ) → kept_in regions.new.entries q ≡ kept_after (kept_in regions.old.entries) parsed.now.region parsed.now.index parsed.now.command q) }
-    ensures nexts { OnOk result ((q : ℕ) → next_in nexts.new.entries q ≡ nexts_after logs.now parsed.now.position parsed.now.region parsed.now.index parsed.now.command (next_in nexts.old.entries) q) }
+    requires { CanDo parsed.now regions.old.entries }
+    ensures regions { OnOk result (BecomeAfter parsed.now regions.old.entries regions.new.entries) }
+    ensures nexts { OnOk result (NextsAfter logs.now parsed.now nexts.old.entries nexts.new.entries) }
     ensures err { OnErr result (regions.new.entries ≡ regions.old.entries) }
     ensures stay { OnErr result (nexts.new.entries ≡ nexts.old.entries) }
 {

@@ -12,7 +12,7 @@ use column_block::{Block, Memory, Schema};
 use committed_log::Logs;
 use flash_types::{HandleRange, RegionId};
 use raft_apply::{Command, Parsed};
-use region_file::Entry as Kept;
+use region_file::Entry;
 use region_state::Region;
 use std::alloc::Global;
 
@@ -34,7 +34,7 @@ fn clears_of(regions: &Regions, id: RegionId, command: &Command) -> Option<Handl
 {
     match command {
         Command::Remove => match regions.get(&id) {
-            Some(Kept::There { region }) => Some(region.range()),
+            Some(Entry::There { region }) => Some(region.range()),
             _ => None,
         },
         Command::Install { range, .. } => Some(*range),
@@ -54,7 +54,7 @@ fn adds_of(
 {
     match command {
         Command::Write { ops } => match regions.get(&id) {
-            Some(Kept::There { region }) => region.versions(ops.as_slice(), schema),
+            Some(Entry::There { region }) => region.versions(ops.as_slice(), schema),
             _ => Ok(Block::new(alloc)),
         },
         Command::Install { epoch, range, ops } => {

@@ -1,16 +1,14 @@
 // Why an entry can't be applied.
-ghost use Rattle.std.specs.Prelude.{◌≡◌, ◌<◌, ◌≤◌, ◌-◌, ℕ, Bool, length, unwrap_or, Some, None, slice_get};
+ghost use Rattle.std.specs.Prelude.{◌≡◌, ◌<◌, length};
 ghost use Rattle.committed_log.specs.Laws.{is_after, is_prepared};
-ghost use Rattle.log_codec.specs.declared.entry.Entry.{Entry};
 ghost use Rattle.committed_log.specs.Regions.{region, index_of, makes_region};
-ghost use Rattle.region_table.specs.Applying.{behind, own_behind, source_behind, all_behind, fault_by, apply_fault};
-ghost use Rattle.region_table.specs.Counting.{applied_in};
-ghost use Rattle.region_table.specs.Faults.{prepare_at_end};
+ghost use Rattle.region_table.specs.Applying.{behind, own_behind, source_behind, all_behind, IsFaultAt};
+ghost use Rattle.region_table.specs.Faults.{prepare_at_end, IsFaultIn};
 ghost use Rattle.region_table.specs.Table.{state_in, AtItsSet};
 
 use crate::counting::has_reached;
 use crate::table::{RegionTable, Regions, index_of, state_of};
-use committed_log::{Logs, Region as State};
+use committed_log::{Logs, Region};
 use flash_types::RegionId;
 use log_codec::{Body, Entry};
 
@@ -69,10 +67,10 @@ fn own_behind(regions: &Regions, last: Option<u64>, entry: &Entry) -> Option<App
     behind(regions, entry.region, entry.index.saturating_sub(1))
 }
 
-fn is_prepared(state: State) -> bool
+fn is_prepared(state: Region) -> bool
     ensures { result ≡ is_prepared state }
 {
-    matches!(state, State::Prepared(_, _))
+    matches!(state, Region::Prepared(_, _))
 }
 
 // The last index that the log gives the source of a commit.
@@ -119,7 +117,7 @@ fn all_behind(
 /// Why the entry at a position can't be applied, if it can't, where `first` is the first that isn't applied.
 pub fn fault_by(logs: &Logs, regions: &Regions, first: u64, position: u64) -> Option<ApplyError>
     requires { position < length logs.now.entries }
-    ensures { (e : Entry) → slice_get logs.now.entries position ≡ Some e → result ≡ fault_by logs.now (state_in regions.now.entries) (applied_in logs.now regions.now.entries position) first (prepare_at_end logs.now e.body) position e }
+    ensures { IsFaultIn logs.now regions.now.entries first position result }
 {
     let entry = logs.entry(position);
     let last = index_of(state_of(regions, entry.region));
@@ -142,7 +140,7 @@ impl RegionTable {
     /// Why the entry at a position can't be applied, if it can't.
     pub(crate) fn find_fault(&self, logs: &Logs, position: u64) -> Option<ApplyError>
         requires { position < length logs.now.entries }
-        ensures { AtItsSet logs.now self.now (λ A. (e : Entry) → slice_get logs.now.entries position ≡ Some e → result ≡ apply_fault logs.now A position e) }
+        ensures { AtItsSet logs.now self.now (λ A. IsFaultAt logs.now A position result) }
     {
         logs.told_lawful();
         fault_by(logs, &self.regions, self.counted.first, position)

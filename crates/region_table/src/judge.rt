@@ -8,7 +8,7 @@ ghost use Rattle.region_table.specs.Table.{AtItsSet, kept_in};
 use crate::table::{RegionTable, Regions};
 use committed_log::Logs;
 use flash_types::{Ask, AskRegion, Epoch, Refusal, RegionId, Ts, Wants};
-use region_file::Entry as Kept;
+use region_file::Entry;
 use region_state::Region;
 
 // The lock that is in the way of a read of a region.
@@ -99,12 +99,12 @@ fn refused_kept(
             applied: None,
             wants: Wants::Index(asked.index),
         }),
-        Some(Kept::Gone { index }) => Some(Refusal::EpochNotMatch {
+        Some(Entry::Gone { index }) => Some(Refusal::EpochNotMatch {
             region: asked.region,
             index: *index,
             found: None,
         }),
-        Some(Kept::There { region }) => refused_there(
+        Some(Entry::There { region }) => refused_there(
             ts,
             asked,
             logs.next_of(asked.region, region.index()),

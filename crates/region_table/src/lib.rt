@@ -7,6 +7,7 @@ mod agree;
 mod apply;
 mod counting;
 mod effect;
+mod examples;
 mod fault;
 mod file;
 mod judge;
@@ -20,6 +21,7 @@ mod step;
 mod table;
 
 pub use effect::Effect;
+pub use examples::faults_are_told;
 pub use fault::ApplyError;
 pub use laws::{
     done_is_applied, early_is_behind, empty_tables_agree, faults_tell_ready,

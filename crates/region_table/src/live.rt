@@ -7,12 +7,12 @@ ghost use Rattle.region_table.specs.Live.{is_above, asked_kept, first_asked, nex
 
 use crate::table::{RegionTable, Regions};
 use flash_types::{AskRegion, RegionId};
-use region_file::Entry as Kept;
+use region_file::Entry;
 use std::collections::btree_map::Range;
 use std::ops::Bound;
 
 // The regions above one, or all.
-fn above(regions: &Regions, after: Option<RegionId>) -> Range<'_, RegionId, Kept>
+fn above(regions: &Regions, after: Option<RegionId>) -> Range<'_, RegionId, Entry>
     ensures { result ≡ filter (λ e. is_above after e.0) regions.now.entries }
 {
     match after {
@@ -22,12 +22,12 @@ fn above(regions: &Regions, after: Option<RegionId>) -> Range<'_, RegionId, Kept
 }
 
 // What an ask says of a region that is there.
-fn asked(id: RegionId, kept: &Kept) -> Option<AskRegion>
+fn asked(id: RegionId, kept: &Entry) -> Option<AskRegion>
     ensures { result ≡ asked_kept (id, kept.now) }
 {
     match kept {
-        Kept::Gone { .. } => None,
-        Kept::There { region } => Some(AskRegion {
+        Entry::Gone { .. } => None,
+        Entry::There { region } => Some(AskRegion {
             region: id,
             epoch: region.epoch(),
             index: region.index(),

@@ -8,10 +8,9 @@ ghost use Rattle.region_table.specs.Opening.{IsOpened, IsOpenFault, IsRegionsFau
 ghost use Rattle.region_table.specs.Table.{Agrees};
 
 use crate::agree::applied_anew;
-use crate::same::same_regions;
 use crate::table::{RegionTable, Regions};
 use committed_log::Logs;
-use region_file::{TableError, read_regions};
+use region_file::{TableError, read_regions, same_regions};
 use std::alloc::Global;
 
 /// Why the file of a checkpoint isn't opened.

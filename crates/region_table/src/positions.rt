@@ -1,9 +1,9 @@
 // The positions of the entries that come next for the regions that are there, as an entry is applied.
-ghost use Rattle.std.specs.Prelude.{◌≡◌, ℕ, Some, OnOk, OnErr, IfOk};
+ghost use Rattle.std.specs.Prelude.{◌≡◌, Some, OnOk, OnErr, IfOk};
 ghost use Rattle.std.specs.List.Sorted.{IsStrictlySortedBy};
 ghost use Rattle.std.specs.Map.{keys_of};
 ghost use Rattle.std.specs.Ordering.{nat_cmp};
-ghost use Rattle.region_table.specs.Nexts.{own_next, child_next, plus, minus};
+ghost use Rattle.region_table.specs.Nexts.{own_next, child_next, plus, minus, minus_both, NextsAre, AreTheNexts};
 ghost use Rattle.region_table.specs.Table.{next_in};
 
 use crate::table::Positions;
@@ -36,8 +36,8 @@ pub fn child_next(logs: &Logs, command: &Command) -> Option<u64>
 }
 
 fn add_position(positions: &mut Positions, position: u64) -> Result<Option<u64>, Memory>
-    ensures ok { OnOk result ((q : ℕ) → next_in positions.new.entries q ≡ plus (Some position) (next_in positions.old.entries) q) }
-    ensures back { IfOk result (λ new. (q : ℕ) → minus new (next_in positions.new.entries) q ≡ next_in positions.old.entries q) }
+    ensures ok { OnOk result (NextsAre positions.new.entries (plus (Some position) (next_in positions.old.entries))) }
+    ensures back { IfOk result (λ new. AreTheNexts (minus new (next_in positions.new.entries)) positions.old.entries) }
     ensures err { OnErr result (positions.new.entries ≡ positions.old.entries) }
 {
     match positions.insert(position, ()) {
@@ -49,8 +49,8 @@ fn add_position(positions: &mut Positions, position: u64) -> Result<Option<u64>,
 
 // Adds a position, where there is one, and answers it where it is new.
 fn add(positions: &mut Positions, position: Option<u64>) -> Result<Option<u64>, Memory>
-    ensures ok { OnOk result ((q : ℕ) → next_in positions.new.entries q ≡ plus position (next_in positions.old.entries) q) }
-    ensures back { IfOk result (λ new. (q : ℕ) → minus new (next_in positions.new.entries) q ≡ next_in positions.old.entries q) }
+    ensures ok { OnOk result (NextsAre positions.new.entries (plus position (next_in positions.old.entries))) }
+    ensures back { IfOk result (λ new. AreTheNexts (minus new (next_in positions.new.entries)) positions.old.entries) }
     ensures err { OnErr result (positions.new.entries ≡ positions.old.entries) }
 {
     match position {
@@ -61,7 +61,7 @@ fn add(positions: &mut Positions, position: Option<u64>) -> Result<Option<u64>, 
 
 /// Takes a position out, where there is one.
 pub fn take_out(positions: &mut Positions, position: Option<u64>)
-    ensures { (q : ℕ) → next_in positions.new.entries q ≡ minus position (next_in positions.old.entries) q }
+    ensures { NextsAre positions.new.entries (minus position (next_in positions.old.entries)) }
 {
     if let Some(position) = position {
         let _ = positions.remove(&position);
@@ -82,8 +82,8 @@ pub fn add_both(
     own: Option<u64>,
     child: Option<u64>,
 ) -> Result<Added, Memory>
-    ensures ok { OnOk result ((q : ℕ) → next_in positions.new.entries q ≡ plus child (plus own (next_in positions.old.entries)) q) }
-    ensures back { IfOk result (λ new. (q : ℕ) → minus new.own (minus new.child (next_in positions.new.entries)) q ≡ next_in positions.old.entries q) }
+    ensures ok { OnOk result (NextsAre positions.new.entries (plus child (plus own (next_in positions.old.entries)))) }
+    ensures back { IfOk result (λ new. AreTheNexts (minus_both new (next_in positions.new.entries)) positions.old.entries) }
     ensures err { OnErr result (positions.new.entries ≡ positions.old.entries) }
 {
     let _before = positions.len();
@@ -99,10 +99,10 @@ fn add_child(
     own: Option<u64>,
     child: Option<u64>,
 ) -> Result<Added, Memory>
-    ensures ok { OnOk result ((q : ℕ) → next_in positions.new.entries q ≡ plus child (next_in positions.old.entries) q) }
+    ensures ok { OnOk result (NextsAre positions.new.entries (plus child (next_in positions.old.entries))) }
     ensures own { IfOk result (λ new. new.own ≡ own) }
-    ensures back { IfOk result (λ new. (q : ℕ) → minus new.child (next_in positions.new.entries) q ≡ next_in positions.old.entries q) }
-    ensures err { OnErr result ((q : ℕ) → next_in positions.new.entries q ≡ minus own (next_in positions.old.entries) q) }
+    ensures back { IfOk result (λ new. AreTheNexts (minus new.child (next_in positions.new.entries)) positions.old.entries) }
+    ensures err { OnErr result (NextsAre positions.new.entries (minus own (next_in positions.old.entries))) }
     ensures ordered { OnErr result (IsStrictlySortedBy nat_cmp (keys_of positions.new.entries)) }
 {
     match add(positions, child) {
@@ -117,7 +117,7 @@ fn add_child(
 
 /// Takes out again what was added.
 pub fn take_back(positions: &mut Positions, new: Added)
-    ensures { (q : ℕ) → next_in positions.new.entries q ≡ minus new.own (minus new.child (next_in positions.old.entries)) q }
+    ensures { NextsAre positions.new.entries (minus_both new (next_in positions.old.entries)) }
 {
     take_out(positions, new.child);
     take_out(positions, new.own);

@@ -1,7 +1,7 @@
 // The entry that comes next.
 ghost use Rattle.std.specs.Prelude.{◌≡◌, ◌<◌, ◌≤◌, ℕ, Bool, None, length, filter, nat_lt, IfSome};
 ghost use Rattle.region_table.specs.Applying.{next_ready, is_in_part, IsNextReady, AreApplied};
-ghost use Rattle.region_table.specs.Nexts.{ready_in, passes_in, if_passes, first_below};
+ghost use Rattle.region_table.specs.Nexts.{ready_in, is_wanted, if_passes, first_wanted};
 ghost use Rattle.region_table.specs.Table.{AtItsSet};
 
 use crate::fault::fault_by;
@@ -35,7 +35,7 @@ fn is_ready(logs: &Logs, regions: &Regions, first: u64, position: u64) -> bool
 
 fn passes(logs: &Logs, regions: &Regions, first: u64, wanted: Wanted, position: u64) -> bool
     requires { 1 ≤ wanted.parts }
-    ensures { result ≡ passes_in logs.now regions.now.entries first (is_in_part wanted.part wanted.parts) wanted.below position }
+    ensures { result ≡ is_wanted logs.now regions.now.entries first wanted position }
 {
     if position >= wanted.below || position >= logs.len() {
         return false;
@@ -51,7 +51,7 @@ fn if_passes(
     position: u64,
 ) -> Option<u64>
     requires { 1 ≤ wanted.parts }
-    ensures { result ≡ if_passes (passes_in logs.now regions.now.entries first (is_in_part wanted.part wanted.parts) wanted.below) position }
+    ensures { result ≡ if_passes (is_wanted logs.now regions.now.entries first wanted) position }
 {
     if passes(logs, regions, first, wanted, position) {
         Some(position)
@@ -76,7 +76,7 @@ fn first_passing(
     wanted: Wanted,
 ) -> Option<u64>
     requires { 1 ≤ wanted.parts }
-    ensures { result ≡ first_below (passes_in logs.now regions.now.entries first (is_in_part wanted.part wanted.parts) wanted.below) wanted.below nexts.now.entries }
+    ensures { result ≡ first_wanted logs.now regions.now.entries first wanted nexts.now.entries }
 {
     for (position, _) in below(nexts, wanted.below) {
         if let Some(found) = if_passes(logs, regions, first, wanted, *position) {

@@ -4,10 +4,9 @@ ghost use Rattle.committed_log.specs.Regions.{index_of};
 ghost use Rattle.committed_log.specs.Replies.{cut_of};
 ghost use Rattle.region_table.specs.Table.{empty_table, state_in, state_there};
 
-use committed_log::Region as State;
+use committed_log::Region;
 use flash_types::{Cut, RegionId};
-use region_file::{Entries, Entry as Kept};
-use region_state::Region;
+use region_file::{Entries, Entry};
 use std::alloc::Global;
 use std::collections::BTreeMap;
 use std::marker::Model;
@@ -47,57 +46,57 @@ impl Model for RegionTable {
 }
 
 // The state of a region that is there.
-fn state_there(region: &Region) -> State
+fn state_there(region: &region_state::Region) -> Region
     ensures { result ≡ state_there region.now }
 {
     let there = region.descriptor();
     match region.target() {
-        None => State::Live(there),
-        Some(target) => State::Prepared(there, target),
+        None => Region::Live(there),
+        Some(target) => Region::Prepared(there, target),
     }
 }
 
 /// The state in which a table has a region.
-pub fn state_of(regions: &Regions, id: RegionId) -> State
+pub fn state_of(regions: &Regions, id: RegionId) -> Region
     ensures { result ≡ state_in regions.now.entries id }
 {
     match regions.get(&id) {
-        None => State::Unborn,
-        Some(Kept::Gone { index }) => State::Gone(*index),
-        Some(Kept::There { region }) => state_there(region),
+        None => Region::Unborn,
+        Some(Entry::Gone { index }) => Region::Gone(*index),
+        Some(Entry::There { region }) => state_there(region),
     }
 }
 
 /// The last index of a region that is born.
-pub fn index_of(state: State) -> Option<u64>
+pub fn index_of(state: Region) -> Option<u64>
     ensures { result ≡ index_of state }
 {
     match state {
-        State::Unborn => None,
-        State::Live(there) => Some(there.index),
-        State::Prepared(there, _) => Some(there.index),
-        State::Gone(index) => Some(index),
+        Region::Unborn => None,
+        Region::Live(there) => Some(there.index),
+        Region::Prepared(there, _) => Some(there.index),
+        Region::Gone(index) => Some(index),
     }
 }
 
-fn cut_of(id: RegionId, state: State) -> Option<Cut>
+fn cut_of(id: RegionId, state: Region) -> Option<Cut>
     ensures { result ≡ cut_of id state }
 {
     match state {
-        State::Live(there) => Some(Cut {
+        Region::Live(there) => Some(Cut {
             region: id,
             epoch: there.epoch,
             index: there.index,
             range: there.range,
         }),
-        State::Prepared(there, _) => Some(Cut {
+        Region::Prepared(there, _) => Some(Cut {
             region: id,
             epoch: there.epoch,
             index: there.index,
             range: there.range,
         }),
-        State::Unborn => None,
-        State::Gone(_) => None,
+        Region::Unborn => None,
+        Region::Gone(_) => None,
     }
 }
 

@@ -6,4 +6,4 @@ pub returns-clause-told : goal.returns-clause-told
 returns-clause-told c = λ log lawful A regions is p. tells log lawful A regions is p
 
 pub returns-clause-one : goal.returns-clause-one
-returns-clause-one c = λ log lawful A B t a b p. tells log lawful A t.regions (of_table log A t a) p ∙ sym (tells log lawful B t.regions (of_table log B t b) p)
+returns-clause-one c = λ log lawful t A B a b p. tells log lawful A t.regions (of_table log A t a) p ∙ sym (tells log lawful B t.regions (of_table log B t b) p)

@@ -1,4 +1,4 @@
-use Rattle.region_table.proofs.Alike.{AreAlike}
+use Rattle.region_file.proofs.Alike.{AreAlike}
 use Rattle.region_table.proofs.same.same_positions.Given as goal
 
 abbrev pub invariant-loop-position : goal.invariant-loop-position
