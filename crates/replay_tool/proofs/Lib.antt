@@ -1,7 +1,3 @@
-pub mod Knowing
-pub mod Clearing
-pub mod Files
-pub mod Members
-pub mod Listed
+pub mod Statuses
 pub mod Runs
-pub mod Completes
+pub mod Clauses

@@ -1,153 +1,92 @@
--- How runs end, status by status.
-use Rattle.std.proofs.Common.{◌≡◌, ◌⊎◌, inl, inr, ℕ, List, [], ◌∷◌, Option, refl, sym, ◌∙◌, subst, arith}
-use Rattle.std.specs.Prelude.{◌↔◌, Contains}
-use Rattle.flash_io.specs.Faults.{Rose}
+-- How runs end, from how their parts do.
+use Rattle.std.proofs.Common.{◌≡◌, inl, inr, refl, sym, subst, ℕ, true, List, length, arith}
+use Rattle.std.specs.Prelude.{codes}
 use Rattle.committed_log.specs.Log.{Log as Entries}
-use Rattle.replay_tool.specs.Causes.{refusal_text}
-use Rattle.replay_tool.specs.declared.status.Status.{Status}
-use Rattle.replay_tool.specs.declared.status.Status.TheVariants.{Done, Usage, Log, Script, LogFault, ScriptFault, Output, Memory}
-use Rattle.tool_text.specs.Words.{AreWords, Ask}
+use Rattle.committed_log.specs.Reads.{rows_at_end}
+use Rattle.log_file.specs.Passages.{Passage, Reads, Writes}
+use Rattle.log_file.specs.Reads.{ReadsLog, IsErrorFrom, log_error_text}
+use Rattle.log_file.specs.declared.log.LogError.{LogError}
+use Rattle.log_file.specs.declared.log.LogError.TheVariants as unread
+use Rattle.log_rows.specs.Texts.{rows_text}
+use Rattle.tool_text.specs.Words.{AsksFor, IsCommand}
+use Rattle.tool_text.specs.Scripts.{IsErrorOf, most_script}
 use Rattle.tool_text.specs.declared.words.Words.{Words}
 use Rattle.tool_text.specs.declared.words.Words.TheVariants.{Show, Check}
-use Rattle.replay_tool.specs.Runs.{Ends, EndsWith, RunShowEnds, CheckEnds, RunCheckEnds, ReadsLog, log_part, script_part, ReadsEntries, code_of, Refuses, RefusesScript, Answered, ReadsWhole, IsTextFor}
+use Rattle.tool_text.specs.declared.script.ScriptError.{ScriptError}
+use Rattle.tool_text.specs.declared.script.ScriptError.TheVariants as error
+use Rattle.replay_tool.specs.Scripts.{IsRefusalFrom, IsNoScriptFrom, no_script_text}
+use Rattle.replay_tool.specs.Commands.{Run, reads_log, IsTextFor}
+use Rattle.replay_tool.specs.Runs.{IsRun, TextEnds, LogErrorEnds, NoScriptEnds, AfterLog, CountsFrom, IsPastLog, IsLogRefusal}
+use Rattle.replay_tool.specs.declared.script.NoScript.{NoScript}
+use Rattle.replay_tool.specs.declared.script.NoScript.TheVariants as unreadable
+use Rattle.replay_tool.specs.declared.status.Status.{Status}
+use Rattle.replay_tool.specs.declared.status.Status.TheVariants.{Done, Usage, Log, Script, LogFault, ScriptFault, Output, Memory}
 
-pub show_ends : (words : List (List ℕ)) (ts : ℕ) (ends : Ends) (status : Status) → AreWords words (Show ts) → RunShowEnds ts (log_part ends) status → EndsWith words ends status
-show_ends words ts ends Done are h = record { text = h.2.0; is = record { command = Show ts; words_are = are; is = (h.0, h.1, h.2.1) }; written = h.2.2 }
-show_ends words ts ends Usage are h = absurd h
-show_ends words ts ends Log are h = record { text = h.1.0; is = ((Show ts, are), (h.0, h.1.1)); written = h.1.2 }
-show_ends words ts ends Script are h = absurd h
-show_ends words ts ends LogFault are h = record { text = _; is = ((Show ts, are), h.0, refl); written = h.1 }
-show_ends words ts ends ScriptFault are h = absurd h
-show_ends words ts ends Output are h = record { text = h.2.0; is = record { command = Show ts; words_are = are; is = (h.0, h.1, h.2.1) }; written = h.2.2 }
-show_ends words ts ends Memory are h = record { text = []; is = ((Show ts, are), refl); written = h }
+-- why the bytes of a source that was read to its end are no script
+pub refusal_from : (p : Passage) (bytes : List ℕ) (why : ScriptError) → Reads most_script p bytes → IsErrorOf bytes why → IsRefusalFrom p why
+refusal_from p bytes error.Limit read is = let few = read.within in absurd (omega (arith, few, is))
+refusal_from p bytes error.Text read is = record { bytes = bytes; read = read; refused = is }
+refusal_from p bytes (error.Field path) read is = record { bytes = bytes; read = read; refused = is }
+refusal_from p bytes error.Memory read is = record { bytes = bytes; consumed = read.consumed; within = read.within }
 
-pub check_ends : (words : List (List ℕ)) (ends : Ends) (status : Status) → AreWords words Check → RunCheckEnds ends status → EndsWith words ends status
-check_ends words ends Done are h = record { text = h.2.0; is = record { command = Check; words_are = are; is = (h.0, h.1, h.2.1) }; written = h.2.2 }
-check_ends words ends Usage are h = absurd h.2
-check_ends words ends Log are h = record { text = h.1.0; is = ((Check, are), (h.0, h.1.1)); written = h.1.2 }
-check_ends words ends Script are h = record { text = h.2.1.0; is = (record { words_are = are; log = h.0; read = h.1 }, (h.2.0, h.2.1.1)); written = h.2.1.2 }
-check_ends words ends LogFault are h = record { text = _; is = ((Check, are), h.0, refl); written = h.1 }
-check_ends words ends ScriptFault are h = record { text = _; is = (record { words_are = are; log = h.0; read = h.1 }, h.2.0, refl); written = h.2.1 }
-check_ends words ends Output are h = record { text = h.2.0; is = record { command = Check; words_are = are; is = (h.0, h.1, h.2.1) }; written = h.2.2 }
-check_ends words ends Memory are h = record { text = []; is = ((Check, are), refl); written = h }
+-- ---- what is written
 
-pub check_run : (bytes : List ℕ) (ends : Ends) (status : Status) → ReadsLog ends bytes → CheckEnds bytes (script_part ends) status → RunCheckEnds ends status
-check_run bytes ends Done read h = (h.0, record { bytes = bytes; read = read; file = h.1 }, h.2)
-check_run bytes ends Usage read h = absurd h.2
-check_run bytes ends Log read h = (bytes, (refusal_text h.0, inr (read, (h.0, h.1, refl)), h.2))
-check_run bytes ends Script read h = (h.0, record { bytes = bytes; read = read; file = h.1 }, h.2)
-check_run bytes ends LogFault read h = absurd h.2
-check_run bytes ends ScriptFault read h = (h.0, record { bytes = bytes; read = read; file = h.1 }, h.2)
-check_run bytes ends Output read h = (h.0, record { bytes = bytes; read = read; file = h.1 }, h.2)
-check_run bytes ends Memory read h = h
+pub refusal_ends : (why : LogError) (out : Passage) (text : List ℕ) (status : Status) → IsLogRefusal why → text ≡ log_error_text why → Writes out text → status ≡ Log → LogErrorEnds why out status
+refusal_ends why out text status refusal same written is = subst (LogErrorEnds why out) (sym is) (refusal, subst (Writes out) same written)
 
-module _ (words : List (List ℕ)) (ends : Ends) where
-  pub words_clause : (status : Status) → EndsWith words ends status → (code_of status ≡ 2) ↔ (Ask words → ⊥)
-  words_clause Done h = (λ e. absurd (omega (arith, e)), λ none. absurd (none (h.is.command, h.is.words_are)))
-  words_clause Usage h = (λ e. h.is.0, λ none. refl)
-  words_clause Log h = (λ e. absurd (omega (arith, e)), λ none. absurd (none h.is.0))
-  words_clause Script h = (λ e. absurd (omega (arith, e)), λ none. absurd (none (Check, h.is.0.words_are)))
-  words_clause LogFault h = (λ e. absurd (omega (arith, e)), λ none. absurd (none h.is.0))
-  words_clause ScriptFault h = (λ e. absurd (omega (arith, e)), λ none. absurd (none (Check, h.is.0.words_are)))
-  words_clause Output h = (λ e. absurd (omega (arith, e)), λ none. absurd (none (h.is.command, h.is.words_are)))
-  words_clause Memory h = (λ e. absurd (omega (arith, e)), λ none. absurd (none h.is.0))
+pub limit_ends : (why : LogError) (out : Passage) (status : Status) → why ≡ unread.Limit → Writes out (codes "refused log limit\n") → status ≡ Log → LogErrorEnds why out status
+limit_ends why out status limit written is = subst (λ e. LogErrorEnds e out status) (sym limit) (subst (LogErrorEnds unread.Limit out) (sym is) (tt {0}, written))
 
-  pub refused_clause : (status : Status) → EndsWith words ends status → code_of status ≡ 3 → Refuses ends
-  refused_clause Log h e = record { bytes = h.is.1.0; text = h.text; says = h.is.1.1; written = h.written }
-  refused_clause Done h e = absurd (omega (arith, e))
-  refused_clause Usage h e = absurd (omega (arith, e))
-  refused_clause Script h e = absurd (omega (arith, e))
-  refused_clause LogFault h e = absurd (omega (arith, e))
-  refused_clause ScriptFault h e = absurd (omega (arith, e))
-  refused_clause Output h e = absurd (omega (arith, e))
-  refused_clause Memory h e = absurd (omega (arith, e))
+pub script_fault_ends : (why : NoScript) (out : Passage) (status : Status) → why ≡ unreadable.Failed → Writes out (codes "fault script\n") → status ≡ ScriptFault → NoScriptEnds why out status
+script_fault_ends why out status fails written is = subst (NoScriptEnds why out) (sym is) (fails, subst (λ e. Writes out (no_script_text e)) (sym fails) written)
 
-  pub script_refused_clause : (status : Status) → EndsWith words ends status → code_of status ≡ 4 → RefusesScript words ends
-  script_refused_clause Script h e = record { past = h.is.0; bytes = h.is.1.0; text = h.text; says = h.is.1.1; written = h.written }
-  script_refused_clause Done h e = absurd (omega (arith, e))
-  script_refused_clause Usage h e = absurd (omega (arith, e))
-  script_refused_clause Log h e = absurd (omega (arith, e))
-  script_refused_clause LogFault h e = absurd (omega (arith, e))
-  script_refused_clause ScriptFault h e = absurd (omega (arith, e))
-  script_refused_clause Output h e = absurd (omega (arith, e))
-  script_refused_clause Memory h e = absurd (omega (arith, e))
+-- ---- a run
 
-  pub log_fault_clause : (status : Status) → EndsWith words ends status → code_of status ≡ 5 → Rose ends.read_faults ends.read_faults'
-  log_fault_clause LogFault h e = h.is.1
-  log_fault_clause Log h e = absurd (omega (arith, e))
-  log_fault_clause Script h e = absurd (omega (arith, e))
-  log_fault_clause Done h e = absurd (omega (arith, e))
-  log_fault_clause Usage h e = absurd (omega (arith, e))
-  log_fault_clause ScriptFault h e = absurd (omega (arith, e))
-  log_fault_clause Output h e = absurd (omega (arith, e))
-  log_fault_clause Memory h e = absurd (omega (arith, e))
+module _ (words : List (List ℕ)) (run : Run) where
+  -- the text of a command that has it
+  text_ends : (command : Words) (text : List ℕ) (status : Status) → AsksFor words command → IsTextFor command run text → TextEnds text run.out status → IsRun words run status
+  text_ends command text Done asked is h = (text, record { command = command; asked = asked; is = is }, h)
+  text_ends command text Usage asked is h = absurd h
+  text_ends command text Log asked is h = absurd h
+  text_ends command text Script asked is h = absurd h
+  text_ends command text LogFault asked is h = absurd h
+  text_ends command text ScriptFault asked is h = absurd h
+  text_ends command text Output asked is h = (text, record { command = command; asked = asked; is = is }, h)
+  text_ends command text Memory asked is h = ((command, asked), h)
 
-  pub script_fault_clause : (status : Status) → EndsWith words ends status → code_of status ≡ 6 → Rose ends.script_faults ends.script_faults'
-  script_fault_clause ScriptFault h e = h.is.1
-  script_fault_clause Log h e = absurd (omega (arith, e))
-  script_fault_clause Script h e = absurd (omega (arith, e))
-  script_fault_clause Done h e = absurd (omega (arith, e))
-  script_fault_clause Usage h e = absurd (omega (arith, e))
-  script_fault_clause LogFault h e = absurd (omega (arith, e))
-  script_fault_clause Output h e = absurd (omega (arith, e))
-  script_fault_clause Memory h e = absurd (omega (arith, e))
+  log_ends : (command : Words) (why : LogError) (status : Status) → AsksFor words command → reads_log command ≡ true → IsErrorFrom run.log why → LogErrorEnds why run.out status → IsRun words run status
+  log_ends command why Done asked reads is h = absurd h
+  log_ends command why Usage asked reads is h = absurd h
+  log_ends command why Log asked reads is h = (why, h.0, record { asked = record { command = command; asked = asked; reads = reads }; is = is; written = h.1 })
+  log_ends command why Script asked reads is h = absurd h
+  log_ends command why LogFault asked reads is h =
+      record { asked = record { command = command; asked = asked; reads = reads }; is = subst (IsErrorFrom run.log) h.0 is; written = subst (λ e. Writes run.out (log_error_text e)) h.0 h.1 }
+  log_ends command why ScriptFault asked reads is h = absurd h
+  log_ends command why Output asked reads is h = absurd h
+  log_ends command why Memory asked reads is h = ((command, asked), h)
 
-  pub out_fault_clause : (status : Status) → EndsWith words ends status → code_of status ≡ 8 → Rose ends.write_faults ends.write_faults'
-  out_fault_clause Output h e = h.written.0
-  out_fault_clause LogFault h e = absurd (omega (arith, e))
-  out_fault_clause ScriptFault h e = absurd (omega (arith, e))
-  out_fault_clause Log h e = absurd (omega (arith, e))
-  out_fault_clause Script h e = absurd (omega (arith, e))
-  out_fault_clause Done h e = absurd (omega (arith, e))
-  out_fault_clause Usage h e = absurd (omega (arith, e))
-  out_fault_clause Memory h e = absurd (omega (arith, e))
+  script_ends : (why : NoScript) (status : Status) → IsPastLog words run → IsNoScriptFrom run.script why → NoScriptEnds why run.out status → IsRun words run status
+  script_ends why Done past is h = absurd h
+  script_ends why Usage past is h = absurd h
+  script_ends why Log past is h = absurd h
+  script_ends why Script past is h = (why, h.0, record { past = past; is = is; written = h.1 })
+  script_ends why LogFault past is h = absurd h
+  script_ends why ScriptFault past is h =
+      record { past = past; is = subst (IsNoScriptFrom run.script) h.0 is; written = subst (λ e. Writes run.out (no_script_text e)) h.0 h.1 }
+  script_ends why Output past is h = absurd h
+  script_ends why Memory past is h = ((past.command, past.asked), h)
 
-  pub answered_clause : (status : Status) → EndsWith words ends status → code_of status ≡ 0 → Answered words ends
-  answered_clause Done h e = record { text = h.text; answers = h.is; written = h.written }
-  answered_clause Usage h e = absurd (omega (arith, e))
-  answered_clause Log h e = absurd (omega (arith, e))
-  answered_clause Script h e = absurd (omega (arith, e))
-  answered_clause LogFault h e = absurd (omega (arith, e))
-  answered_clause ScriptFault h e = absurd (omega (arith, e))
-  answered_clause Output h e = absurd (omega (arith, e))
-  answered_clause Memory h e = absurd (omega (arith, e))
+  pub show_ends : (ts : ℕ) (status : Status) → AsksFor words (Show ts) → AfterLog run.log run.out (λ l. TextEnds (rows_text (rows_at_end l ts)) run.out) status → IsRun words run status
+  show_ends ts status asked (inl h) = text_ends (Show ts) (rows_text (rows_at_end h.0 ts)) status asked (record { log = h.0; read = h.1; is = refl }) h.2
+  show_ends ts status asked (inr h) = log_ends (Show ts) h.0 status asked refl h.1 h.2
 
--- the program's statuses
-pub is_answer : (status : Status) → Contains (0 ∷ 2 ∷ 3 ∷ 4 ∷ 5 ∷ 6 ∷ 8 ∷ 9 ∷ []) (code_of status)
-is_answer Done = (0, omega arith, refl)
-is_answer Usage = (1, omega arith, refl)
-is_answer Log = (2, omega arith, refl)
-is_answer Script = (3, omega arith, refl)
-is_answer LogFault = (4, omega arith, refl)
-is_answer ScriptFault = (5, omega arith, refl)
-is_answer Output = (6, omega arith, refl)
-is_answer Memory = (7, omega arith, refl)
+  counts_end : (log : Entries) (status : Status) → AsksFor words Check → ReadsLog run.log log → CountsFrom (length log.entries) run.script run.out status → IsRun words run status
+  counts_end log status asked read (inl h) = text_ends Check _ status asked (record { log = log; read = read; script = h.0; says = h.1; is = refl }) h.2
+  counts_end log status asked read (inr h) = script_ends h.0 status (record { command = Check; asked = asked; reads = refl; log = log; read = read }) h.1 h.2
 
--- the log's statuses are told apart by their numbers
-pub of_log : {Q : Type 0} (status : Status) → ((status ≡ Log) ⊎ (status ≡ LogFault) → Q) → (code_of status ≡ 3) ⊎ (code_of status ≡ 5) → Q
-of_log Log q e = q (inl refl)
-of_log LogFault q e = q (inr refl)
-of_log Done q (inl e) = absurd (omega (arith, e))
-of_log Done q (inr e) = absurd (omega (arith, e))
-of_log Usage q (inl e) = absurd (omega (arith, e))
-of_log Usage q (inr e) = absurd (omega (arith, e))
-of_log Script q (inl e) = absurd (omega (arith, e))
-of_log Script q (inr e) = absurd (omega (arith, e))
-of_log ScriptFault q (inl e) = absurd (omega (arith, e))
-of_log ScriptFault q (inr e) = absurd (omega (arith, e))
-of_log Output q (inl e) = absurd (omega (arith, e))
-of_log Output q (inr e) = absurd (omega (arith, e))
-of_log Memory q (inl e) = absurd (omega (arith, e))
-of_log Memory q (inr e) = absurd (omega (arith, e))
+  pub check_ends : (status : Status) → AsksFor words Check → AfterLog run.log run.out (λ l. CountsFrom (length l.entries) run.script run.out) status → IsRun words run status
+  check_ends status asked (inl h) = counts_end h.0 status asked h.1 h.2
+  check_ends status asked (inr h) = log_ends Check h.0 status asked refl h.1 h.2
 
--- ---- what was read to its end
-
-other_command : (words : List (List ℕ)) (ts : ℕ) → AreWords words (Show ts) → AreWords words Check → ⊥
-other_command words ts show check = absurd (cc (show.1, check))
-
-whole : (words : List (List ℕ)) (ends : Ends) (command : Words) (text : List ℕ) → AreWords words command → IsTextFor command ends text → ReadsWhole words ends
-whole words ends (Show ts) text are is = (is.1.ended, λ check. absurd (other_command words ts are check))
-whole words ends Check text are is = (is.1.read.ended, λ check. is.2.read.ended)
-
-pub whole_clause : (words : List (List ℕ)) (ends : Ends) → Answered words ends → ReadsWhole words ends
-whole_clause words ends h = whole words ends h.answers.command h.text h.answers.words_are h.answers.is
+  pub usage_ends : (status : Status) → status ≡ Usage → (IsCommand words → ⊥) → Writes run.out (codes "refused words\n") → IsRun words run status
+  usage_ends status is none written = subst (IsRun words run) (sym is) (none, written)

@@ -1,6 +1,4 @@
-pub mod Values
-pub mod Logs
-pub mod Causes
-pub mod Folds
 pub mod Texts
+pub mod Scripts
+pub mod Commands
 pub mod Runs

@@ -1,62 +1,47 @@
 // `check`: how many entries the log has, and how many reads the script.
-ghost use Rattle.std.specs.Prelude.{◌≡◌, ◌⊎◌, IfOk, IfErr, length};
+ghost use Rattle.std.specs.Prelude.{◌≡◌, ◌⊎◌, IfOk, IfErr, OnOk, ◌++◌, length};
+ghost use Rattle.std.specs.Fmt.{decimal};
 ghost use Rattle.committed_log.specs.Log.{Log};
-ghost use Rattle.replay_tool.specs.Logs.{IsLogFile, IsErrorOf};
+ghost use Rattle.log_file.specs.Passages.{source_passage, sink_passage};
+ghost use Rattle.log_file.specs.Reads.{ReadsLog, IsErrorFrom};
 ghost use Rattle.replay_tool.specs.Texts.{check_text};
-ghost use Rattle.replay_tool.specs.Runs.{RunCheckEnds, CheckEnds, CheckScriptEnds, CountEnds, TextEnds, between, scripting, writing};
+ghost use Rattle.replay_tool.specs.Runs.{AfterLog, CountsFrom, TextEnds};
 
-use crate::cause::push_number;
-use crate::log::{LogError, read_log};
-use crate::refuse::{refuse, refuse_log, refuse_script};
-use crate::run::MOST_LOG;
+use crate::refuse::{refuse_log, refuse_script};
+use crate::script::read_script;
 use crate::status::Status;
-use flash_io::{IntoError, Sink, Source, read_to_limit, write_all};
+use crate::write::write_text;
+use flash_io::{Sink, Source};
+use log_file::{LogError, read_log};
 use std::alloc::{AllocError, Global};
-use tool_text::{MOST_SCRIPT, read_script};
 
 /// Reads the log and admits its entries, then reads the script, and writes how many entries and
-/// reads there are. The script isn't read where the log is refused.
+/// reads there are. The script isn't read where the log is refused or fails.
 pub fn run_check<L: Source, S: Source, W: Sink>(
     alloc: Global,
     log: &mut L,
     script: &mut S,
     out: &mut W,
 ) -> Status
-    ensures ends { RunCheckEnds (between L.left L.fault_count S.left S.fault_count W.contents W.fault_count log.old log.new script.old script.new out.old out.new) result }
+    ensures ends { let said = source_passage S.Source script.old script.new in
+        let text = sink_passage W.Sink out.old out.new in
+        AfterLog (source_passage L.Source log.old log.new) text
+        (λ l. CountsFrom (length l.entries) said text) result }
     ensures log_first { (result ≡ Status.Log) ⊎ (result ≡ Status.LogFault) → script.new ≡ script.old }
 {
-    let mut bytes = Vec::new(alloc);
-    match read_to_limit(log, MOST_LOG, &mut bytes) {
-        Ok(()) => check(alloc, &bytes, script, out),
-        Err(IntoError::TooLong) => {
-            refuse(out, b"refused log limit\n");
-            Status::Log
-        }
-        Err(IntoError::Failed) => {
-            refuse(out, b"fault log\n");
-            Status::LogFault
-        }
-        Err(IntoError::Memory) => Status::Memory,
-    }
-}
-
-fn check<S: Source, W: Sink>(alloc: Global, bytes: &[u8], script: &mut S, out: &mut W) -> Status
-    ensures ends { CheckEnds bytes.now (scripting S.left S.fault_count W.contents W.fault_count script.old script.new out.old out.new) result }
-    ensures log_first { (result ≡ Status.Log) ⊎ (result ≡ Status.LogFault) → script.new ≡ script.old }
-{
-    match entries_of(alloc, bytes) {
+    match entries_of(alloc, log) {
         Ok(entries) => check_script(alloc, entries, script, out),
-        Err(LogError::Refused(refusal)) => refuse_log(alloc, refusal, out),
-        Err(LogError::Memory) => Status::Memory,
+        Err(error) => refuse_log(alloc, error, out),
     }
 }
 
-// How many entries the log has that the bytes are.
-fn entries_of(alloc: Global, bytes: &[u8]) -> Result<u64, LogError>
-    ensures counted { IfOk result (λ entries. (log : Log) × IsLogFile bytes.now log × (entries ≡ length log.entries)) }
-    ensures refused { IfErr result (IsErrorOf bytes.now) }
+// How many entries the log has.
+fn entries_of<L: Source>(alloc: Global, log: &mut L) -> Result<u64, LogError>
+    ensures counted { IfOk result (λ entries. (l : Log) × (entries ≡ length l.entries)
+        × ReadsLog (source_passage L.Source log.old log.new) l) }
+    ensures refused { IfErr result (IsErrorFrom (source_passage L.Source log.old log.new)) }
 {
-    match read_log(alloc, bytes) {
+    match read_log(alloc, log) {
         Ok(logs) => Ok(logs.len()),
         Err(error) => Err(error),
     }
@@ -68,41 +53,21 @@ fn check_script<S: Source, W: Sink>(
     script: &mut S,
     out: &mut W,
 ) -> Status
-    ensures { CheckScriptEnds entries (scripting S.left S.fault_count W.contents W.fault_count script.old script.new out.old out.new) result }
+    ensures ends { CountsFrom entries (source_passage S.Source script.old script.new)
+        (sink_passage W.Sink out.old out.new) result }
+    ensures past_log { (result ≡ Status.Log) ⊎ (result ≡ Status.LogFault) → ⊥ }
 {
-    let mut bytes = Vec::new(alloc);
-    match read_to_limit(script, MOST_SCRIPT, &mut bytes) {
-        Ok(()) => count(alloc, entries, &bytes, out),
-        Err(IntoError::TooLong) => {
-            refuse(out, b"refused script limit\n");
-            Status::Script
-        }
-        Err(IntoError::Failed) => {
-            refuse(out, b"fault script\n");
-            Status::ScriptFault
-        }
-        Err(IntoError::Memory) => Status::Memory,
-    }
-}
-
-// Writes the counts, or why the bytes are no script.
-fn count<W: Sink>(alloc: Global, entries: u64, bytes: &[u8], out: &mut W) -> Status
-    ensures { CountEnds entries bytes.now (writing W.contents W.fault_count out.old out.new) result }
-{
-    match read_script(alloc, bytes) {
+    match read_script(alloc, script) {
         Ok(script) => write_counts(alloc, entries, script.reads.len() as u64, out),
         Err(error) => refuse_script(alloc, &error, out),
     }
 }
 
 fn write_counts<W: Sink>(alloc: Global, entries: u64, reads: u64, out: &mut W) -> Status
-    ensures { TextEnds (check_text entries reads) (writing W.contents W.fault_count out.old out.new) result }
+    ensures { TextEnds (check_text entries reads) (sink_passage W.Sink out.old out.new) result }
 {
     match check_text(alloc, entries, reads) {
-        Ok(text) => match write_all(out, &text) {
-            Ok(()) => Status::Done,
-            Err(_failed) => Status::Output,
-        },
+        Ok(text) => write_text(out, &text),
         Err(_no_memory) => Status::Memory,
     }
 }
@@ -116,4 +81,18 @@ fn check_text(alloc: Global, entries: u64, reads: u64) -> Result<Vec<u8>, AllocE
     push_number(alloc, b" entries ", reads, &mut text)?;
     text.extend_from_slice(b" reads\n")?;
     Ok(text)
+}
+
+// Adds a word, and a number in decimal.
+fn push_number(
+    alloc: Global,
+    word: &[u8],
+    number: u64,
+    into: &mut Vec<u8>,
+) -> Result<(), AllocError>
+    ensures { OnOk result (into.new.items ≡ into.old.items ++ (word.now ++ decimal number)) }
+{
+    into.extend_from_slice(word)?;
+    let digits = format!(in alloc; "{number}")?;
+    into.extend_from_slice(digits.as_bytes())
 }

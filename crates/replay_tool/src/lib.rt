@@ -1,16 +1,12 @@
 //! The commands over a log, from bytes to bytes.
 #![tactic(auto)]
 
-mod cause;
 mod check;
-mod clear;
-mod fold;
-mod log;
 mod refuse;
-mod rows;
 mod run;
+mod script;
 mod show;
 mod status;
-mod value;
+mod write;
 
 pub use run::replay;

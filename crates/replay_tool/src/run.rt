@@ -1,22 +1,16 @@
 // The commands, from words to a status.
-ghost use Rattle.std.specs.Prelude.{◌≡◌, ◌⊎◌, ◌↔◌, ◌∷◌, [], ℕ, Contains};
-ghost use Rattle.flash_io.specs.Faults.{Rose};
-ghost use Rattle.tool_text.specs.Words.{AreWords, Ask};
-ghost use Rattle.tool_text.specs.declared.words.Words.TheVariants.{Show};
-ghost use Rattle.replay_tool.specs.Runs.{EndsWith, EndsWithCode, Refuses, RefusesScript, Answered, ReadsWhole, RunShowEnds, ShowEnds, IsComplete, between, logging, writing};
+ghost use Rattle.std.specs.Prelude.{◌≡◌, ◌↔◌};
+ghost use Rattle.tool_text.specs.Words.{IsCommand};
+ghost use Rattle.replay_tool.specs.Commands.{run_of};
+ghost use Rattle.replay_tool.specs.Runs.{IsRun, IsAnswer, LeavesUnread, Refuses, HasFault, Answered, ReadsWhole, EndsWith, IsComplete, code_of};
 
 use crate::check::run_check;
-use crate::log::LogError;
-use crate::refuse::{refuse, refuse_log};
-use crate::show::shown_text;
+use crate::refuse::refuse;
+use crate::show::run_show;
 use crate::status::Status;
-use flash_io::{IntoError, Sink, Source, WordList, read_to_limit, write_all};
-use flash_types::Ts;
+use flash_io::{Sink, Source, WordList};
 use std::alloc::Global;
 use tool_text::{Usage, Words, read_words};
-
-/// The most bytes that a log may have.
-pub const MOST_LOG: u64 = 268_435_456;
 
 /// Runs the command that the words say on the bytes of `log` and `script`, and writes its text to
 /// `out`. The answer is the program's status.
@@ -34,7 +28,9 @@ pub const MOST_LOG: u64 = 268_435_456;
 ///
 /// At 2 to 6 a front of the text is written where a write failed. A whole source is read before its
 /// first byte is looked at, and the whole text is made before its first byte is written. The script
-/// is read once the log's last entry is admitted, and not before.
+/// is read once the log's last entry is admitted, and not before. A source that the command doesn't
+/// read is left as it was handed in, and so are both where the words are no command. At 5 and 6 no
+/// more bytes were read than the source may have.
 ///
 /// `show N` prints the rows that a read at the timestamp N is shown at the log's end, over all
 /// handles: of each the newest commit that isn't after N, where it is a put. It reads the log alone.
@@ -48,23 +44,26 @@ pub fn replay<R: AllocGlobal, L: Source, S: Source, W: Sink>(
     script: &mut S,
     out: &mut W,
 ) -> u8
-    ensures words { (result ≡ 2) ↔ (Ask words.now → ⊥) }
-    ensures answers { Contains (0 ∷ 2 ∷ 3 ∷ 4 ∷ 5 ∷ 6 ∷ 8 ∷ 9 ∷ []) result }
-    ensures log_refused { result ≡ 3 → Refuses (between L.left L.fault_count S.left S.fault_count W.contents W.fault_count log.old log.new script.old script.new out.old out.new) }
-    ensures script_refused { result ≡ 4 → RefusesScript words.now (between L.left L.fault_count S.left S.fault_count W.contents W.fault_count log.old log.new script.old script.new out.old out.new) }
-    ensures log_fault { result ≡ 5 → Rose (L.fault_count log.old) (L.fault_count log.new) }
-    ensures script_fault { result ≡ 6 → Rose (S.fault_count script.old) (S.fault_count script.new) }
-    ensures out_fault { result ≡ 8 → Rose (W.fault_count out.old) (W.fault_count out.new) }
-    ensures answered { result ≡ 0 → Answered words.now (between L.left L.fault_count S.left S.fault_count W.contents W.fault_count log.old log.new script.old script.new out.old out.new) }
-    ensures read_whole { result ≡ 0 → ReadsWhole words.now (between L.left L.fault_count S.left S.fault_count W.contents W.fault_count log.old log.new script.old script.new out.old out.new) }
-    ensures log_alone { (ts : ℕ) → AreWords words.now (Show ts) → script.new ≡ script.old }
-    ensures log_first { (result ≡ 3) ⊎ (result ≡ 5) → script.new ≡ script.old }
-    ensures complete { IsComplete words.now (between L.left L.fault_count S.left S.fault_count W.contents W.fault_count log.old log.new script.old script.new out.old out.new) result }
-    ensures prefix { EndsWithCode words.now (between L.left L.fault_count S.left S.fault_count W.contents W.fault_count log.old log.new script.old script.new out.old out.new) result }
+    ensures words { (result ≡ 2) ↔ (IsCommand words.now → ⊥) }
+    ensures answers { IsAnswer words.now result }
+    ensures unread { LeavesUnread words.now result log.old log.new script.old script.new }
+    ensures refused { Refuses words.now result
+        (run_of L.Source S.Source W.Sink log.old log.new script.old script.new out.old out.new) }
+    ensures fault { HasFault words.now result
+        (run_of L.Source S.Source W.Sink log.old log.new script.old script.new out.old out.new) }
+    ensures answered { result ≡ 0 → Answered words.now
+        (run_of L.Source S.Source W.Sink log.old log.new script.old script.new out.old out.new) }
+    ensures read_whole { result ≡ 0 → ReadsWhole words.now
+        (run_of L.Source S.Source W.Sink log.old log.new script.old script.new out.old out.new) }
+    ensures prefix { EndsWith words.now result
+        (run_of L.Source S.Source W.Sink log.old log.new script.old script.new out.old out.new) }
+    ensures complete { IsComplete words.now result
+        (run_of L.Source S.Source W.Sink log.old log.new script.old script.new out.old out.new) }
 {
     run(rt.alloc(), words, log, script, out).code()
 }
 
+#[tactic(auto, using(crate::proofs::Clauses::usage_unread, crate::proofs::Runs::usage_ends))]
 fn run<L: Source, S: Source, W: Sink>(
     alloc: Global,
     words: &WordList,
@@ -72,49 +71,16 @@ fn run<L: Source, S: Source, W: Sink>(
     script: &mut S,
     out: &mut W,
 ) -> Status
-    ensures ends { EndsWith words.now (between L.left L.fault_count S.left S.fault_count W.contents W.fault_count log.old log.new script.old script.new out.old out.new) result }
-    ensures log_alone { (ts : ℕ) → AreWords words.now (Show ts) → script.new ≡ script.old }
-    ensures log_first { (result ≡ Status.Log) ⊎ (result ≡ Status.LogFault) → script.new ≡ script.old }
+    ensures ends { IsRun words.now
+        (run_of L.Source S.Source W.Sink log.old log.new script.old script.new out.old out.new)
+        result }
+    ensures unread { LeavesUnread words.now (code_of result) log.old log.new script.old script.new }
 {
     match read_words(words) {
         Ok(Words::Show { ts }) => run_show(alloc, ts, log, out),
         Ok(Words::Check) => run_check(alloc, log, script, out),
-        Err(Usage) => {
-            refuse(out, b"refused words\n");
-            Status::Usage
-        }
-    }
-}
-
-// Prints the rows at the timestamp.
-fn run_show<L: Source, W: Sink>(alloc: Global, ts: Ts, log: &mut L, out: &mut W) -> Status
-    ensures { RunShowEnds ts (logging L.left L.fault_count W.contents W.fault_count log.old log.new out.old out.new) result }
-{
-    let mut bytes = Vec::new(alloc);
-    match read_to_limit(log, MOST_LOG, &mut bytes) {
-        Ok(()) => show(alloc, &bytes, ts, out),
-        Err(IntoError::TooLong) => {
-            refuse(out, b"refused log limit\n");
-            Status::Log
-        }
-        Err(IntoError::Failed) => {
-            refuse(out, b"fault log\n");
-            Status::LogFault
-        }
-        Err(IntoError::Memory) => Status::Memory,
-    }
-}
-
-// Writes the rows that the bytes show at the timestamp, or why they show none.
-fn show<W: Sink>(alloc: Global, bytes: &[u8], ts: Ts, out: &mut W) -> Status
-    ensures { ShowEnds ts bytes.now (writing W.contents W.fault_count out.old out.new) result }
-{
-    match shown_text(alloc, bytes, ts) {
-        Ok(text) => match write_all(out, &text) {
-            Ok(()) => Status::Done,
-            Err(_failed) => Status::Output,
-        },
-        Err(LogError::Refused(refusal)) => refuse_log(alloc, refusal, out),
-        Err(LogError::Memory) => Status::Memory,
+        Ok(Words::Replay { .. }) => unreachable!(),
+        Ok(Words::Gen { .. }) => unreachable!(),
+        Err(Usage) => refuse(out, b"refused words\n", Status::Usage),
     }
 }

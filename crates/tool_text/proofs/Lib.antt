@@ -5,3 +5,5 @@ pub mod Members
 pub mod Eaches
 pub mod Asking
 pub mod NoErrors
+pub mod OneCommand
+pub mod Within

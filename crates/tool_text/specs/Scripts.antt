@@ -183,9 +183,9 @@ pub record IsRefusedAt (bytes : List ℕ) (path : List ℕ) : Type 0 where
   pub refused : script_in value ≡ Err at
   pub is : path ≡ told at
 
--- why the bytes are no script
+-- why the bytes are no script; want of memory is told of none that are too many
 abbrev pub IsErrorOf : List ℕ → ScriptError → Type 0
 IsErrorOf bytes Limit = most_script < length bytes
 IsErrorOf bytes Text = (length bytes ≤ most_script) × ((value : Data) → IsJson bytes value → ⊥)
 IsErrorOf bytes (Field path) = IsRefusedAt bytes path
-IsErrorOf bytes Memory = Unit {0}
+IsErrorOf bytes Memory = length bytes ≤ most_script

@@ -21,4 +21,4 @@ pub use refusal::print_script_error;
 pub use reply::{Cuts, ReadReply, Rows, print_reply};
 pub use row::print_row;
 pub use script::{Action, Event, Events, PathText, Reads, Script, ScriptError, ScriptRead};
-pub use words::{Usage, Words, read_words};
+pub use words::{Usage, Words, read_words, words_ask_for_one_command};

@@ -3,6 +3,7 @@ ghost use Rattle.std.specs.Prelude.{◌≡◌, ◌≤◌, IfOk, IfErr, length, m
 ghost use Rattle.serde_json.specs.Data.{Data};
 ghost use Rattle.serde_json.specs.View.{view};
 ghost use Rattle.tool_text.specs.Scripts.{settings_in, join_rows_in, workers_in, script_in, told, most_script, IsScript, IsErrorOf, IsJson};
+ghost use Rattle.tool_text.specs.Limits.{IsWithinLimits};
 ghost use Rattle.tool_text.specs.Misfits.{Gives, Tells};
 
 use crate::field::{maybe_number, small_or};
@@ -55,6 +56,7 @@ const MOST_PACK_ROWS: u32 = 65_536;
 /// but the first, and of the script.
 pub fn read_script(alloc: Global, bytes: &[u8]) -> Result<Script, ScriptError>
     ensures script { IfOk result (λ script. IsScript bytes.now script) }
+    ensures within { IfOk result (λ script. IsWithinLimits script) }
     ensures refused { IfErr result (λ error. IsErrorOf bytes.now error) }
 {
     if bytes.len() as u64 > MOST_SCRIPT {

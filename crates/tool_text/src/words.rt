@@ -1,7 +1,8 @@
 // The words of a command.
-ghost use Rattle.std.specs.Prelude.{◌≡◌, ◌≢◌, ◌⊎◌, ◌<◌, ◌≤◌, ◌^◌, ℕ, false, IsTrue, slice_index, length, IfOk, OnErr, IfSome, IfNone, ◌↔◌, codes};
+ghost use Rattle.std.specs.Prelude.{List, ◌≡◌, ◌≢◌, ◌⊎◌, ◌<◌, ◌≤◌, ◌^◌, ℕ, false, IsTrue, slice_index, length, IfOk, OnErr, IfSome, IfNone, ◌↔◌, codes};
 ghost use Rattle.std.specs.Fmt.{decimal};
-ghost use Rattle.tool_text.specs.Words.{AreWords, Ask};
+ghost use Rattle.tool_text.specs.Words.{AsksFor, IsCommand};
+ghost use Rattle.tool_text.specs.declared.words.Words.{Words};
 
 use flash_io::WordList;
 
@@ -12,6 +13,11 @@ pub enum Words {
     Show { ts: u64 },
     /// `check`: what the log and the script count.
     Check,
+    /// `replay`: the script is run over the log, and with `settle` the store is settled then. No
+    /// words ask for it yet.
+    Replay { settle: bool },
+    /// `gen N`: the generated log of N transactions is run. No words ask for it yet.
+    Gen { n: u64 },
 }
 
 /// The words are no command.
@@ -21,8 +27,8 @@ pub struct Usage;
 /// The command that the words are. They are `show` and a number from 0 to 18446744073709551615 in
 /// decimal digits, with no sign and no leading zero, or `check` alone; all other words are `Usage`.
 pub fn read_words(words: &WordList) -> Result<Words, Usage>
-    ensures command { IfOk result (AreWords words.now) }
-    ensures usage { OnErr result (Ask words.now → ⊥) }
+    ensures command { IfOk result (AsksFor words.now) }
+    ensures usage { OnErr result (IsCommand words.now → ⊥) }
 {
     match words.as_slice() {
         [command] => {
@@ -44,6 +50,11 @@ pub fn read_words(words: &WordList) -> Result<Words, Usage>
         _ => Err(Usage),
     }
 }
+
+/// Words ask for one command at most.
+pub fn words_ask_for_one_command()
+    ensures { (words : List (List ℕ)) (a b : Words) → AsksFor words a → AsksFor words b → a ≡ b }
+{}
 
 // A number with no sign and no leading zero.
 fn read_number(word: &[u8]) -> Option<u64>

@@ -1,37 +1,23 @@
-use Rattle.std.proofs.Common.{sym, ◌∙◌}
-use Rattle.replay_tool.proofs.Runs.{words_clause, refused_clause, script_refused_clause, log_fault_clause, script_fault_clause, out_fault_clause, answered_clause, whole_clause, of_log, is_answer}
-use Rattle.replay_tool.proofs.Completes.{complete_clause}
+use Rattle.replay_tool.proofs.Clauses.{words_clause, answers_clause, refused_clause, fault_clause, answered_clause, whole_clause, complete_clause}
 use Rattle.replay_tool.proofs.run.replay.Goals as goal
 
 pub returns-clause-words : goal.returns-clause-words
 returns-clause-words g c = rw c.code.ensures (words_clause c.args.words.now _ c.run.result c.run.ensures.ends)
 
 pub returns-clause-answers : goal.returns-clause-answers
-returns-clause-answers g c = rw c.code.ensures (is_answer c.run.result)
+returns-clause-answers g c = rw c.code.ensures (answers_clause c.args.words.now _ c.run.result c.run.ensures.ends)
 
-pub returns-clause-log_refused : goal.returns-clause-log_refused
-returns-clause-log_refused g c = λ e. refused_clause c.args.words.now _ c.run.result c.run.ensures.ends (sym c.code.ensures ∙ e)
+pub returns-clause-refused : goal.returns-clause-refused
+returns-clause-refused g c = rw c.code.ensures (refused_clause c.args.words.now _ c.run.result c.run.ensures.ends)
 
-pub returns-clause-log_fault : goal.returns-clause-log_fault
-returns-clause-log_fault g c = λ e. log_fault_clause c.args.words.now _ c.run.result c.run.ensures.ends (sym c.code.ensures ∙ e)
-
-pub returns-clause-out_fault : goal.returns-clause-out_fault
-returns-clause-out_fault g c = λ e. out_fault_clause c.args.words.now _ c.run.result c.run.ensures.ends (sym c.code.ensures ∙ e)
-
-pub returns-clause-script_refused : goal.returns-clause-script_refused
-returns-clause-script_refused g c = λ e. script_refused_clause c.args.words.now _ c.run.result c.run.ensures.ends (sym c.code.ensures ∙ e)
-
-pub returns-clause-script_fault : goal.returns-clause-script_fault
-returns-clause-script_fault g c = λ e. script_fault_clause c.args.words.now _ c.run.result c.run.ensures.ends (sym c.code.ensures ∙ e)
+pub returns-clause-fault : goal.returns-clause-fault
+returns-clause-fault g c = rw c.code.ensures (fault_clause c.args.words.now _ c.run.result c.run.ensures.ends)
 
 pub returns-clause-answered : goal.returns-clause-answered
-returns-clause-answered g c = λ e. answered_clause c.args.words.now _ c.run.result c.run.ensures.ends (sym c.code.ensures ∙ e)
+returns-clause-answered g c = rw c.code.ensures (answered_clause c.args.words.now _ c.run.result c.run.ensures.ends)
 
 pub returns-clause-read_whole : goal.returns-clause-read_whole
-returns-clause-read_whole g c = λ e. whole_clause c.args.words.now _ (answered_clause c.args.words.now _ c.run.result c.run.ensures.ends (sym c.code.ensures ∙ e))
-
-pub returns-clause-log_first : goal.returns-clause-log_first
-returns-clause-log_first g c = rw c.code.ensures (of_log c.run.result c.run.ensures.log_first)
+returns-clause-read_whole g c = rw c.code.ensures (whole_clause c.args.words.now _ c.run.result c.run.ensures.ends)
 
 pub returns-clause-complete : goal.returns-clause-complete
 returns-clause-complete g c = rw c.code.ensures (complete_clause c.args.words.now _ c.run.result c.run.ensures.ends)

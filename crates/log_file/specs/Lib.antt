@@ -1,0 +1,5 @@
+pub mod Values
+pub mod Logs
+pub mod Causes
+pub mod Passages
+pub mod Reads

@@ -1,0 +1,4 @@
+pub mod Knowing
+pub mod Clearing
+pub mod Members
+pub mod Listed

@@ -1,6 +1,0 @@
-use Rattle.std.proofs.Common.{◌≡◌, take}
-use Rattle.replay_tool.specs.Values.{columns_of}
-use Rattle.replay_tool.proofs.value.columns_of.Given as goal
-
-abbrev pub invariant-loop-spec : goal.invariant-loop-spec
-invariant-loop-spec l = l.columns.items ≡ columns_of (take l.spec-index l.specs)
