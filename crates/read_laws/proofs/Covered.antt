@@ -9,6 +9,7 @@ use Rattle.good_replica.specs.Good.{CoversFrom}
 use Rattle.good_replica.specs.Trail.{Segment}
 use Rattle.learner_read.specs.Pieces.{is_needed}
 use Rattle.learner_read.specs.Rows.{is_asked}
+use Rattle.read_laws.specs.Reads.{HasNeeded}
 
 both_true : (a b : Bool) → (a && b) ≡ true → (a ≡ true) × (b ≡ true)
 both_true true b e = (refl, e)
@@ -75,9 +76,9 @@ le_le a b h e f = grind (arith, ints)
 
 -- each handle that is asked for is of a segment that the read needs, where the clip begins not below the first
 pub asked_is_covered : (low : ℤ) (ss : List Segment) → CoversFrom low ss → (clip : HandleRange) (cuts : List Cut) → int_le low clip.low ≡ true → (h : ℤ) → is_asked clip cuts h ≡ true →
-    (k : ℕ) × (s : Segment) × (slice_get ss k ≡ Some s) × (holds s.range h ≡ true) × (is_needed clip cuts s.range ≡ true)
+    HasNeeded clip cuts ss h
 asked_is_covered low ss c clip cuts le h asked =
     let both = both_true (holds clip h) (list_any (λ (cut : Cut). holds cut.range h) cuts) asked in
     let parts = both_true (int_le clip.low h) (is_below h clip.high) both.0 in
     let found = covered low ss c h (le_le low clip.low h le parts.0) in
-    (found.0, found.1, found.2, found.3, needed clip cuts found.1.range h asked found.3)
+    record { place = found.0; segment = found.1; here = found.2; held = found.3; needed = needed clip cuts found.1.range h asked found.3 }

@@ -13,9 +13,11 @@ use Rattle.log_laws.specs.Rows.{IsSettledCut, is_wanted}
 use Rattle.good_replica.specs.Changed.{of_parts, view}
 use Rattle.good_replica.specs.Good.{IsGoodSegment}
 use Rattle.good_replica.specs.Shows.{Shows}
+use Rattle.good_replica.specs.Trail.{Segment}
 use Rattle.delta_layer.specs.Files.{files_of}
 use Rattle.delta_layer.specs.Stable.{stable_in}
 use Rattle.delta_layer.specs.declared.view.SegmentView.{SegmentView}
+use Rattle.learner_read.specs.Pieces.{is_needed}
 
 -- ---- the pieces
 
@@ -32,6 +34,14 @@ pub record TellRead {G : Type 0} (bytes : G → List ℕ) (log : Log) (A : ℕ �
   pub settled : (cut : Cut) → Contains cuts cut → IsSettledCut log A m cut
   pub cover : (h : ℤ) → is_wanted clip cuts h ≡ true → HasPiece pieces h
   pub good : (k : ℕ) (piece : SegmentView G) → slice_get pieces k ≡ Some piece → (stable : List Version) → stable_in bytes piece.stable ≡ Ok stable → IsGoodSegment log A m safe (of_parts piece.range stable (files_of piece.delta))
+
+-- one of the segments has the handle, and a read with this clip and these cuts needs it
+pub record HasNeeded (clip : HandleRange) (cuts : List Cut) (segments : List Segment) (h : ℤ) : Type 0 where
+  pub place : ℕ
+  pub segment : Segment
+  pub here : slice_get segments place ≡ Some segment
+  pub held : holds segment.range h ≡ true
+  pub needed : is_needed clip cuts segment.range ≡ true
 
 -- ---- the rows
 

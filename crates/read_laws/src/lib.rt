@@ -1,11 +1,10 @@
 //! A read of a replica whose pieces are good gives the rows of the log.
 #![tactic(auto)]
 
-ghost use Rattle.std.specs.Prelude.{◌≡◌, ℕ, ℤ, Bool, true, int_le, Some, List, filter, map, slice_get};
+ghost use Rattle.std.specs.Prelude.{◌≡◌, ℕ, ℤ, Bool, true, int_le, List, filter, map};
 ghost use Rattle.column_block.specs.declared.cell.Cell.{Cell};
 ghost use Rattle.column_block.specs.declared.cell.Row.{Row};
 ghost use Rattle.column_block.specs.declared.cell.Version.{Version};
-ghost use Rattle.flash_types.specs.Ranges.{holds};
 ghost use Rattle.flash_types.specs.declared.range.HandleRange.{HandleRange};
 ghost use Rattle.flash_types.specs.declared.refusal.Cut.{Cut};
 ghost use Rattle.committed_log.specs.Applied.{IsClosed};
@@ -15,9 +14,8 @@ ghost use Rattle.committed_log.specs.Reads.{rows};
 ghost use Rattle.good_replica.specs.Good.{CoversFrom};
 ghost use Rattle.good_replica.specs.Trail.{Segment};
 ghost use Rattle.delta_layer.specs.declared.view.SegmentView.{SegmentView};
-ghost use Rattle.learner_read.specs.Pieces.{is_needed};
 ghost use Rattle.learner_read.specs.Rows.{is_asked};
-ghost use Rattle.read_laws.specs.Reads.{AreReadOf, TellRead, row_in};
+ghost use Rattle.read_laws.specs.Reads.{AreReadOf, HasNeeded, TellRead, row_in};
 
 /// What is read of pieces is those of the log's rows at the cuts and the timestamp that pass, where
 /// each cut is of a settled region, each handle that is wanted is of a piece, each piece is good, and
@@ -45,7 +43,5 @@ pub fn asked_handles_are_covered()
     ensures { (low : ℤ) (segments : List Segment) → CoversFrom low segments
         → (clip : HandleRange) (cuts : List Cut) → int_le low clip.low ≡ true
         → (h : ℤ) → is_asked clip cuts h ≡ true
-        → (k : ℕ) × (s : Segment) × (slice_get segments k ≡ Some s)
-        × (holds s.range h ≡ true)
-        × (is_needed clip cuts s.range ≡ true) }
+        → HasNeeded clip cuts segments h }
 {}

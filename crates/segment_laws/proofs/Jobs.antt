@@ -1,5 +1,5 @@
 -- What builds answer is by their jobs.
-use Rattle.std.proofs.Common.{sym, subst, ℕ, ℤ, List, Ok}
+use Rattle.std.proofs.Common.{◌≡◌, sym, subst, ℕ, ℤ, List, Ok}
 use Rattle.column_block.specs.declared.column.Column.{Column}
 use Rattle.delta_layer.specs.declared.built.Built.{Built}
 use Rattle.delta_layer.specs.declared.built.Job.{Job}
@@ -25,3 +25,6 @@ module _ {G : Type 0} (tells : Type 0) (bytes : G → List ℕ) (columns : List 
 
   pub of_merge : (left right : SegmentView G) (built : Built G) → Touch left.range right.range → IsMerge columns rows left right built → (tells → GivesMerge bytes left right (Ok built)) → IsBuilt tells bytes columns rows built
   of_merge left right built touch is gives = subst (λ (job : Job). IsBuiltBy tells bytes columns rows job built) (sym is.job) (record { left = left; right = right; touch = touch; is = is; gives = gives })
+
+  pub of_job : (built : Built G) (job : Job) → built.job ≡ job → IsBuilt tells bytes columns rows built → IsBuiltBy tells bytes columns rows job built
+  of_job built job same is = subst (λ (job : Job). IsBuiltBy tells bytes columns rows job built) same is

@@ -4,7 +4,8 @@ mod files;
 mod installs;
 
 pub use builds::{
-    builds_are_by_their_jobs, compactions_give, delta_merges_give, merges_give, splits_give,
+    builds_are_by_their_jobs, compactions_give, delta_merges_give, jobs_tell_what_was_built,
+    merges_give, splits_give,
 };
 pub use files::{
     compacted_segments_stay_good, flushed_segments_stay_good, repacked_files_keep_counts,

@@ -7,12 +7,13 @@ ghost use Rattle.delta_layer.specs.Files.{files_of};
 ghost use Rattle.delta_layer.specs.Repacked.{CanCompact};
 ghost use Rattle.delta_layer.specs.Stable.{stable_in};
 ghost use Rattle.delta_layer.specs.declared.built.Built.{Built};
+ghost use Rattle.delta_layer.specs.declared.built.Job.{Job};
 ghost use Rattle.delta_layer.specs.declared.view.SegmentView.{SegmentView};
 ghost use Rattle.delta_merge.specs.Merged.{GivesDeltaMerge, IsDeltaMerge};
 ghost use Rattle.segment_split.specs.Halves.{GivesSplit, IsCut, IsSplit};
 ghost use Rattle.segment_merge.specs.Joined.{GivesMerge, IsMerge, Touch};
 ghost use Rattle.segment_laws.specs.Given.{HasBoth, HasCollected, HasHalves};
-ghost use Rattle.segment_laws.specs.Jobs.{IsBuilt, IsCompaction};
+ghost use Rattle.segment_laws.specs.Jobs.{IsBuilt, IsBuiltBy, IsCompaction};
 ghost use Rattle.segment_laws.specs.Runs.{run_of};
 
 use flash_io::Gripped;
@@ -82,4 +83,12 @@ pub fn builds_are_by_their_jobs<G: Gripped>()
         → IsMerge columns rows left right built
         → (G.Gripped.tells → GivesMerge G.Gripped.bytes left right (Ok built))
         → IsBuilt G.Gripped.tells G.Gripped.bytes columns rows built }
+{}
+
+/// Where the job is known, what was built is what that job makes.
+pub fn jobs_tell_what_was_built<G: Gripped>()
+    ensures { (columns : List Column) (rows : ℕ) (built : Built G) (job : Job)
+        → built.job ≡ job
+        → IsBuilt G.Gripped.tells G.Gripped.bytes columns rows built
+        → IsBuiltBy G.Gripped.tells G.Gripped.bytes columns rows job built }
 {}
