@@ -4,8 +4,8 @@ use Rattle.std.proofs.lemmas.List.{length-append, length-map}
 use Rattle.column_file.specs.declared.file.ColumnFile.{ColumnFile}
 use Rattle.delta_layer.specs.Files.{file_of}
 use Rattle.flash_types.specs.declared.range.HandleRange.{HandleRange}
-use Rattle.segment_list.specs.Clipped.{clip}
-use Rattle.segment_list.specs.Tagged.{Tagged}
+use Rattle.prefix_laws.specs.Clipped.{clip}
+use Rattle.prefix_laws.specs.Tagged.{Tagged}
 use Rattle.segment_list.specs.Slots.{tagged, told_one, tag_in, file_in, clip_pairs, pairs_of, Gathered, with_pairs}
 use Rattle.segment_list.proofs.Telling.{clip_pairs_say}
 

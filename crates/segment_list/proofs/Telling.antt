@@ -14,8 +14,8 @@ use Rattle.good_replica.specs.Trail.{DeltaFile, Puts, Clears}
 use Rattle.stable_file.specs.declared.file.StableFile.{StableFile}
 use Rattle.std.specs.List.{AllByRecursion}
 use Rattle.segment_list.specs.Laws.{told_by}
-use Rattle.segment_list.specs.Clipped.{says, speaks, clip, clears_part, puts_part, absorb}
-use Rattle.segment_list.specs.Tagged.{Tagged, TaggedSegment, tagged_of}
+use Rattle.prefix_laws.specs.Clipped.{says, speaks, clip, clears_part, puts_part, absorb}
+use Rattle.prefix_laws.specs.Tagged.{Tagged, TaggedSegment, tagged_of}
 use Rattle.segment_list.specs.Slots.{Slotted, IsTagged, pushed_some, absorbed, cleared_file, added_file, block_file, kept, clip_file, clip_pair, clip_pairs, told_one, tagged, tags_of, told_of}
 
 pub clip_file_says : (range : HandleRange) (f : ColumnFile) → file_of (clip_file range f) ≡ clipped range (file_of f)

@@ -7,8 +7,8 @@ use Rattle.flash_types.specs.Ranges.{holds}
 use Rattle.good_replica.specs.Good.{CoversFrom}
 use Rattle.stable_file.specs.declared.file.StableFile.{StableFile}
 use Rattle.std.specs.List.{AllByRecursion}
-use Rattle.segment_list.specs.Clipped.{absorb, clip}
-use Rattle.segment_list.specs.Tagged.{TaggedSegment}
+use Rattle.prefix_laws.specs.Clipped.{absorb, clip}
+use Rattle.prefix_laws.specs.Tagged.{TaggedSegment}
 use Rattle.delta_layer.specs.Repacked.{Repacked}
 use Rattle.segment_list.specs.Flushes.{flushed_files, flushed_slot}
 use Rattle.segment_list.specs.Lists.{range_alone}

@@ -1,5 +1,3 @@
-pub mod Tagged
-pub mod Clipped
 pub mod Slots
 pub mod Laws
 pub mod Order

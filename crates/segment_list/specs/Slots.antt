@@ -10,8 +10,8 @@ use Rattle.stable_file.specs.declared.file.StableFile.{StableFile}
 use Rattle.stable_file.specs.Opened.{count_in, packs_of}
 use Rattle.std.specs.List.{sum_by}
 use Rattle.delta_layer.specs.Files.{file_of}
-use Rattle.segment_list.specs.Clipped.{speaks}
-use Rattle.segment_list.specs.Tagged.{Tagged, TaggedSegment, tagged_of}
+use Rattle.prefix_laws.specs.Clipped.{speaks}
+use Rattle.prefix_laws.specs.Tagged.{Tagged, TaggedSegment, tagged_of}
 
 -- A segment, the number of its stable file, how many files of its delta the manifest names, and for each file behind them how many entries were applied when it came, its tag.
 pub record Slotted (G : Type 0) : Type 0 where
