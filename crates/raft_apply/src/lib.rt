@@ -3,8 +3,10 @@
 #![tactic(auto)]
 
 mod command;
+mod examples;
 mod ops;
 mod parsing;
 
 pub use command::{Command, FamilyOps, Parsed};
+pub use examples::each_kind_is_said;
 pub use parsing::parse;
