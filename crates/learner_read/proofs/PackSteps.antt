@@ -22,7 +22,7 @@ use Rattle.pack_codec.specs.declared.fault.FormError.TheVariants as form
 use Rattle.pack_codec.specs.Reading.{pack_at}
 use Rattle.pack_codec.proofs.Binds.{bind_ok, if_ok, ok_is}
 use Rattle.stable_file.specs.Opened.{grip_of, packs_of, schema_of}
-use Rattle.stable_file.specs.Packs.{versions_in}
+use Rattle.stable_file.specs.Packs.{has_room, versions_in}
 use Rattle.stable_file.specs.Ranges.{handle_at, is_as_told, reached, told_at, told_in}
 use Rattle.stable_file.specs.declared.file.StableFile.{StableFile}
 use Rattle.stable_file.specs.declared.pack.Pack.{Pack}
@@ -47,10 +47,14 @@ and_right false b e = absurd (true≢false (sym e))
 
 versions_rise : (end at : ℕ) (columns : List Column) (bytes : List ℕ) (vs : List Version) → versions_in end at columns bytes ≡ Ok vs → rise vs ≡ true
 unfolding versions_in
-versions_rise end at columns bytes vs e =
-    let a = bind_ok (pack_at end columns bytes) _ vs e in
-    let b = if_ok (rise a.0) a.0 vs (form.Damaged at) a.2 in
-    subst (λ vs. rise vs ≡ true) b.1 b.0
+versions_rise end at columns bytes vs e = by (has_room bytes) e
+  where
+    by : (room : Bool) → cond room (pack_at end columns bytes >>= λ vs. cond (rise vs) (Ok vs) (Err (form.Damaged at))) (Err (form.Damaged at)) ≡ Ok vs → rise vs ≡ true
+    by false h = cc h
+    by true h =
+        let a = bind_ok (pack_at end columns bytes) _ vs h in
+        let b = if_ok (rise a.0) a.0 vs (form.Damaged at) a.2 in
+        subst (λ vs. rise vs ≡ true) b.1 b.0
 
 -- The versions of a pack rise, and are what the footer tells.
 pub record IsRead (pack : Pack) (vs : List Version) : Type 0 where

@@ -148,7 +148,8 @@ fn read_of(
 }
 
 // How many rows a scan gave, and the error at which it ended, if it met one.
-struct Seen {
+#[derive(Drop)]
+struct Ended {
     rows: u64,
     error: Option<ReadError>,
 }
@@ -158,7 +159,7 @@ fn seen<F: Fn(&Cells) -> bool>(
     snapshot: &Snapshot<MemGrip>,
     reader: &mut MemReader,
     sieve: &Sieve<F>,
-) -> Seen
+) -> Ended
     requires { F.IsAlwaysCallable sieve.now.test }
 {
     let mut rows = 0u64;
@@ -166,31 +167,31 @@ fn seen<F: Fn(&Cells) -> bool>(
     for _ in 0..1000 {
         match scan.next_block() {
             Ok(Some(block)) => rows = rows.wrapping_add(block.len() as u64),
-            Ok(None) => return Seen { rows, error: None },
+            Ok(None) => return Ended { rows, error: None },
             Err(error) => {
-                return Seen {
+                return Ended {
                     rows,
                     error: Some(error),
                 };
             }
         }
     }
-    Seen { rows, error: None }
+    Ended { rows, error: None }
 }
 
-// A disk whose readers fail at their call with this number.
-fn failing_at(alloc: Global, call: u64) -> Result<MemDisk, Fail> {
-    let mut disk = MemDisk::new(alloc);
+// Lets the disk's readers to come fail at their call with this number.
+fn fail_at(alloc: Global, disk: &mut MemDisk, call: u64) -> Result<(), Fail> {
     let failing = Vec::from_array(alloc, [call])?;
     disk.set_reader_failing(failing).map_err(|_| "memory")?;
-    Ok(disk)
+    Ok(())
 }
 
 #[test]
 fn the_first_block_reads_at_most_two_packs(rt: HostRuntime) -> Result<(), Fail> {
     let alloc = rt.alloc();
-    let mut disk = failing_at(alloc, 3)?;
+    let mut disk = MemDisk::new(alloc);
     let file = file_of(alloc, &mut disk, None)?;
+    fail_at(alloc, &mut disk, 3)?;
     let snapshot = read_of(
         alloc,
         ALL,
@@ -207,8 +208,9 @@ fn the_first_block_reads_at_most_two_packs(rt: HostRuntime) -> Result<(), Fail> 
 #[test]
 fn no_pack_is_read_where_no_row_may_pass(rt: HostRuntime) -> Result<(), Fail> {
     let alloc = rt.alloc();
-    let mut disk = failing_at(alloc, 1)?;
+    let mut disk = MemDisk::new(alloc);
     let file = file_of(alloc, &mut disk, None)?;
+    fail_at(alloc, &mut disk, 1)?;
     let snapshot = read_of(
         alloc,
         ALL,
@@ -235,8 +237,9 @@ fn no_pack_is_read_where_no_row_may_pass(rt: HostRuntime) -> Result<(), Fail> {
 #[test]
 fn a_read_of_one_handle_reads_at_most_two_packs(rt: HostRuntime) -> Result<(), Fail> {
     let alloc = rt.alloc();
-    let mut disk = failing_at(alloc, 3)?;
+    let mut disk = MemDisk::new(alloc);
     let file = file_of(alloc, &mut disk, None)?;
+    fail_at(alloc, &mut disk, 3)?;
     let view = view_of(&DeltaLayer::new(alloc), ALL, Some(file))?;
     let snapshot = read_of(alloc, between(50, 51), view)?;
     let mut reader = disk.reader();
