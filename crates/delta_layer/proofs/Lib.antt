@@ -12,3 +12,4 @@ pub mod Places
 pub mod Presents
 pub mod Repacking
 pub mod Sweeping
+pub mod Windows

@@ -22,7 +22,8 @@ pub use laws::{
     stable_files_suit,
 };
 pub use layer::DeltaLayer;
-pub use presence::present;
+pub use presence::{present, present_above};
+pub use stable::add_pack;
 pub use view::{DeltaView, SegmentView};
 
 /// Memory ran out.

@@ -1,7 +1,7 @@
 // What a delta has of a segment's handles: its newest versions, and its delete-ranges.
 ghost use Rattle.std.specs.Prelude.{◌≡◌, ◌∷◌, ◌++◌, [], ℤ, slice_get, if◌then◌else◌, IfOk, OnOk, Some};
 ghost use Rattle.column_block.specs.declared.cell.Version.{Version};
-ghost use Rattle.flash_types.specs.Ranges.{holds};
+ghost use Rattle.flash_types.specs.Ranges.{holds, is_below};
 ghost use Rattle.delta_layer.specs.Files.{index_of};
 ghost use Rattle.delta_layer.specs.Overlay.{any_holds, at_place, block_in, clears_in, in_range, placed, AreByLow};
 
@@ -19,10 +19,24 @@ pub fn newest(alloc: Global, delta: &DeltaView, range: HandleRange) -> Result<Bl
 {
     let index = delta.index();
     let mut news = Block::new(alloc);
-    for k in 0..index.len() {
-        add_within(delta, range, index.at(k), &mut news)?;
+    for k in index.first_from(range.low)..index.len() {
+        let row = index.at(k);
+        if !is_below(row.handle, range.high) {
+            return Ok(news);
+        }
+        add_within(delta, range, row, &mut news)?;
     }
     Ok(news)
+}
+
+// Whether the handle is below the end, where there is one.
+fn is_below(handle: i64, high: Option<i64>) -> bool
+    ensures { result ≡ is_below handle high }
+{
+    match high {
+        None => true,
+        Some(high) => handle < high,
+    }
 }
 
 // Adds the version of a row that the index tells of, where its handle is in the range.

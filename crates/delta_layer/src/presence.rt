@@ -37,14 +37,16 @@ pub fn present<R: Reader>(
     ensures cause { HasReadCause (R.fault_count reader.old) (R.fault_count reader.new) result }
 {
     let stable = stable_versions(alloc, &view.stable, reader)?;
-    match overlaid(alloc, view.range, stable, &view.delta) {
+    match present_above(alloc, view.range, stable, &view.delta) {
         Ok(versions) => Ok(versions),
         Err(_) => Err(ReadError::Memory),
     }
 }
 
-// The versions that are present above these stable ones.
-fn overlaid(
+/// The versions that are present in this range, of these stable versions and the files of a delta
+/// above them. It reads no device. Of the delta only the files' delete-ranges and the versions of
+/// the range are looked at.
+pub fn present_above(
     alloc: Global,
     range: HandleRange,
     stable: Block,

@@ -47,8 +47,11 @@ fn file_versions<R: Reader>(
     Ok(all)
 }
 
-// Adds the versions of one more pack, where these rise from those that are there.
-fn add_pack<R: Reader>(
+/// Adds the versions of one more pack, where these rise from those that are there. Packs are counted
+/// from 0. `Damaged` names the first place in the file where the pack isn't of the form or belies the
+/// footer, as `stable_file::read_pack` says, or the pack's place where its versions don't rise from
+/// those that are there. `Device` comes only where the reader's count of faults rose.
+pub fn add_pack<R: Reader>(
     alloc: Global,
     file: &StableFile<R::Grip>,
     reader: &mut R,

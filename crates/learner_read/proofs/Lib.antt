@@ -2,5 +2,11 @@ pub mod Going
 pub mod Members
 pub mod Neighbours
 pub mod Newest
+pub mod PackSteps
 pub mod Places
 pub mod Reading
+pub mod RowsOf
+pub mod Skips
+pub mod Splits
+pub mod Testing
+pub mod Turns

@@ -70,7 +70,7 @@ is_top ts vs v t = and (nat_le v.ts ts) (not v.gone && not (list_any (is_newer t
 
 -- ---- the newest up to a timestamp
 
-newest : (all : Versions) (n : ℕ) → ((d : ℕ) → d ≤ n → all d ≡ None) ⊎ ((c : ℕ) × (v : Version) × IsNewestAt all n c v)
+pub newest : (all : Versions) (n : ℕ) → ((d : ℕ) → d ≤ n → all d ≡ None) ⊎ ((c : ℕ) × (v : Version) × IsNewestAt all n c v)
 newest all zero = by (all zero) refl
   where
     is_zero : (d : ℕ) → d ≤ 0 → d ≡ 0

@@ -1,188 +1,105 @@
 -- The rows of a scan are the read rule over what its pieces have.
-use Rattle.std.proofs.Common.{◌≡◌, ◌⊎◌, inl, inr, ◌∙◌, refl, sym, ap, subst, ℕ, zero, suc, ◌<◌, ◌≤◌, ◌<ℤ◌, ℤ, Bool, true, false, true≢false, cond, ◌&&◌, ◌||◌, List, [], ◌∷◌, ◌++◌, Option, Some, None, length, get_or, slice_get, option_map, arith}
-use Rattle.std.specs.Prelude.{filter, find, int_le, int_lt}
-use Rattle.std.specs.List.{AllByRecursion, AllPairs, list_any}
+use Rattle.std.proofs.Common.{◌≡◌, ◌⊎◌, inl, inr, ◌∙◌, refl, sym, ap, subst, ℕ, zero, suc, ◌<◌, ◌≤◌, ◌<ℤ◌, ℤ, Bool, true, false, true≢false, cond, ◌&&◌, ◌||◌, List, [], ◌∷◌, ◌++◌, Option, Some, None, append_assoc, length, get_or, slice_get, option_map, fold, Result, Ok, Err, arith}
+use Rattle.std.specs.Prelude.{find}
+use Rattle.std.proofs.lemmas.List.Sums.{fold-append}
+use Rattle.std.specs.List.{AllByRecursion, AllPairs}
 use Rattle.std.specs.Option.{option_or}
-use Rattle.std.specs.Ordering.{int_eq}
-use Rattle.std.proofs.lemmas.Int.{ints}
-use Rattle.std.proofs.lemmas.List.Kept.{AllPairs-filter}
+use Rattle.column_block.specs.declared.cell.Cell.{Cell}
 use Rattle.column_block.specs.declared.cell.Version.{Version}
-use Rattle.flash_types.specs.Ranges.{holds, is_below}
-use Rattle.flash_types.specs.declared.range.HandleRange.{HandleRange}
-use Rattle.flash_types.specs.declared.refusal.Cut.{Cut}
-use Rattle.good_replica.specs.Changed.{view}
-use Rattle.good_replica.specs.Shows.{Shows}
+use Rattle.column_block.specs.declared.column.Bound.{Bound}
+use Rattle.column_block.specs.declared.column.Column.{Column}
+use Rattle.flash_types.specs.Ranges.{holds}
+use Rattle.good_replica.specs.Changed.{had, view}
+use Rattle.good_replica.specs.Shows.{IsNewestAt, Shows}
+use Rattle.good_replica.specs.Trail.{after_steps, after_versions, steps_on, versions_on}
 use Rattle.good_replica.specs.Versions.{Versions}
-use Rattle.good_replica.proofs.Facts.{int_same}
-use Rattle.column_block.specs.Order.{Rise}
 use Rattle.delta_layer.specs.Files.{files_of}
-use Rattle.delta_layer.specs.Present.{IsPresent}
+use Rattle.delta_layer.specs.Present.{ArePresent}
+use Rattle.delta_layer.specs.Stable.{stable_in, with_pack}
 use Rattle.delta_layer.specs.declared.view.SegmentView.{SegmentView}
-use Rattle.learner_read.specs.Laws.{AreRead, ShowsRow}
-use Rattle.learner_read.specs.Pieces.{PiecesRise, ends_before, is_needed, meets}
+use Rattle.pack_codec.specs.declared.fault.FormError.{FormError}
+use Rattle.pack_codec.specs.declared.fault.FormError.TheVariants as form
+use Rattle.pack_codec.proofs.Binds.{ok_is}
+use Rattle.stable_file.specs.Opened.{ArePacks, IsPack, NeverFall, grip_of, packs_of, schema_of}
+use Rattle.stable_file.specs.declared.file.StableFile.{StableFile}
+use Rattle.stable_file.specs.declared.pack.Pack.{Pack}
+use Rattle.learner_read.specs.Laws.{AreRead, IsWell, KeepsTest, KeptAs, ScansFollow, ShowsRow, TellsColumn}
+use Rattle.learner_read.specs.Packs.{packs_in, read_in, read_of}
+use Rattle.learner_read.specs.Pieces.{PiecesRise, ends_before, is_needed}
 use Rattle.learner_read.specs.Rows.{cells_on, is_asked, shown_rows}
-use Rattle.learner_read.specs.Scans.{AreRowsOrNone, Scans, rows_of}
+use Rattle.learner_read.specs.Scans.{Answers, Leaves, Pass, Scans, rows_of}
+use Rattle.learner_read.specs.Scans.Leaves.{Stopped, Whole}
 use Rattle.learner_read.specs.Scans.Scans.{End, Passed, Shown, Broken}
 use Rattle.learner_read.specs.declared.snapshot.Snapshot.{Snapshot}
-use Rattle.learner_read.proofs.Members.{In, in_filter, in_get, find_in}
-use Rattle.learner_read.proofs.Newest.{IsTop, once, shows, top}
+use Rattle.learner_read.proofs.Members.{In, had_in, in_had}
+use Rattle.learner_read.proofs.Newest.{IsTop, newest, shows}
+use Rattle.learner_read.proofs.PackSteps.{stays_failed}
+use Rattle.learner_read.proofs.RowsOf.{IsLower, asked, find_append, find_kept, find_other, in_append, in_each, irreflexive, kept_of, needed_at, on, ordered, pairs_join, pass_in, pass_rise, row_is, rows_rise}
+use Rattle.learner_read.proofs.Skips.{IsSafe, IsSkipped, none_in_delta, none_passes, reads, safe_or, view_of}
 
--- ---- lists of rows
-
-abbrev IsLower : Version → Version → Type 0
-IsLower v w = v.handle <ℤ w.handle
-
-pairs_cons : (v : Version) (ws : List Version) → ((w : Version) → In w ws → IsLower v w) → AllPairs IsLower ws → AllPairs IsLower (v ∷ ws)
-pairs_cons v ws below all zero zero d less within = absurd (omega (arith, less))
-pairs_cons v ws below all zero (suc j) d less within = below (get_or ws j d) (in_get ws j d (omega (arith, within)))
-pairs_cons v ws below all (suc i) zero d less within = absurd (omega (arith, less))
-pairs_cons v ws below all (suc i) (suc j) d less within = all i j d (omega (arith, less)) (omega (arith, within))
-
-pairs_rest : (v : Version) (ws : List Version) → AllPairs IsLower (v ∷ ws) → AllPairs IsLower ws
-pairs_rest v ws all i j d less within = all (suc i) (suc j) d (omega (arith, less)) (omega (arith, within))
-
-pairs_first : (v : Version) (ws : List Version) → AllPairs IsLower (v ∷ ws) → (w : Version) → In w ws → IsLower v w
-pairs_first v ws all w i = (let at = place ws w i in subst (IsLower v) (at.2) (all 0 (suc at.0) w (omega arith) (let l = at.1 in omega (arith, l))))
+-- what versions show at a timestamp is something
+shows_some : (all : Versions) (ts : ℕ) → (o : Option (List Cell)) × Shows all ts o
+shows_some all ts = elim (newest all ts) [ inl none ↦ (None, inl none) | inr x ↦ by x.0 x.1 x.2 x.1.gone refl ]
   where
-    place : (ws : List Version) (w : Version) → In w ws → (k : ℕ) × (k < length ws) × (get_or ws k w ≡ w)
-    place [] w i = absurd i
-    place (x ∷ xs) w (inl same) = (0, omega arith, sym same)
-    place (x ∷ xs) w (inr i) = (let at = place xs w i in (suc at.0, (let l = at.1 in omega (arith, l)), at.2))
+    by : (c : ℕ) (v : Version) → IsNewestAt all ts c v → (b : Bool) → v.gone ≡ b → (o : Option (List Cell)) × Shows all ts o
+    by c v n true is = (None, inr (c, v, n, is))
+    by c v n false is = (Some v.cells, (c, v, n, is, refl))
 
-in_append : (v : Version) (xs ys : List Version) → In v (xs ++ ys) → In v xs ⊎ In v ys
-in_append v [] ys i = inr i
-in_append v (x ∷ xs) ys (inl same) = inl (inl same)
-in_append v (x ∷ xs) ys (inr i) = elim (in_append v xs ys i) [ inl a ↦ inl (inr a) | inr b ↦ inr b ]
+module _ {G : Type 0} (bytes : G → List ℕ) (snapshot : Snapshot G) (test : Answers) (bound : Option Bound) (keeps : KeepsTest test bound) where
+  -- ---- one piece
 
-pairs_join : (xs ys : List Version) → AllPairs IsLower xs → AllPairs IsLower ys → ((v w : Version) → In v xs → In w ys → IsLower v w) → AllPairs IsLower (xs ++ ys)
-pairs_join [] ys a b across = b
-pairs_join (x ∷ xs) ys a b across =
-    pairs_cons x (xs ++ ys) (λ w i. elim (in_append w xs ys i) [ inl l ↦ pairs_first x xs a w l | inr r ↦ across x w (inl refl) r ])
-    (pairs_join xs ys (pairs_rest x xs a) b (λ v w i j. across v w (inr i) j))
+  module _ (piece : SegmentView G) (rows read versions : List Version) (is : read_in bytes piece.stable [] (read_of snapshot bound piece None (packs_in piece.stable)) ≡ Ok read) (present : ArePresent piece.range read (files_of piece.delta) versions) (passes : Pass test (rows_of snapshot versions) rows) where
+    row_in : (v : Version) → In v rows → In v versions × ((asked snapshot v.handle ≡ true) × (IsTop snapshot.ts versions v × test v.cells true))
+    row_in v i = (let p = pass_in test (rows_of snapshot versions) rows passes v i in let r = row_is snapshot versions v p.0 in (r.0, (r.1.0, (r.1.1, p.1))))
 
-each_in : (P : Version → Type 0) (vs : List Version) → ((v : Version) → In v vs → P v) → AllByRecursion P vs
-each_in P [] all = tt
-each_in P (v ∷ vs) all = (all v (inl refl), each_in P vs (λ w i. all w (inr i)))
+    rise_here : AllPairs IsLower rows
+    rise_here = pass_rise test (rows_of snapshot versions) rows passes (rows_rise snapshot versions present.rise)
 
-in_each : (P : Version → Type 0) (vs : List Version) → AllByRecursion P vs → (v : Version) → In v vs → P v
-in_each P [] all v i = absurd i
-in_each P (w ∷ ws) all v (inl same) = subst P (sym same) all.0
-in_each P (w ∷ ws) all v (inr i) = in_each P ws all.1 v i
+    held_here : (v : Version) → In v rows → holds piece.range v.handle ≡ true
+    held_here v i = in_each (λ (v : Version). holds piece.range v.handle ≡ true) versions present.within v (row_in v i).0
 
--- ---- a row by its handle
+    -- what is read of a part of which each pack is of the form
+    part_read : (part : Option (StableFile G)) (stable : List Version) → stable_in bytes part ≡ Ok stable → NeverFall (packs_in part) → AllByRecursion IsPack (packs_in part) → AllByRecursion (TellsColumn bound) (packs_in part) → read_in bytes part [] (read_of snapshot bound piece None (packs_in part)) ≡ Ok read →
+        ((v : Version) → In v read → In v stable)
+        × ((h : ℤ) → IsSafe snapshot bound piece h None (packs_in part) → versions_on h read ≡ versions_on h stable)
+        × ((h : ℤ) → holds piece.range h ≡ true → asked snapshot h ≡ true → IsSkipped snapshot bound piece h None (packs_in part) → (v : Version) → In v stable → v.handle ≡ h → test v.cells true → ⊥)
+    part_read None stable e order each tells r = (
+      λ v i. absurd (subst (In v) (sym (ok_is [] read r)) i),
+      λ h safe. ap (versions_on h) (sym (ok_is [] read r) ∙ ok_is [] stable e),
+      λ h held wanted skipped. absurd skipped,
+    )
+    part_read (Some file) stable e order each tells r =
+        let x = reads snapshot bound piece (schema_of file) (bytes (grip_of file)) None (packs_of file) [] [] stable e tt (λ v i. i) in
+        let same : x.read ≡ read = ok_is x.read read (sym x.is ∙ r) in (
+          λ v i. x.of v (subst (In v) (sym same) i),
+          λ h safe. ap (versions_on h) (sym same) ∙ x.same h refl safe,
+          λ h held wanted skipped v i on passes. none_passes bound test (schema_of file) (bytes (grip_of file)) keeps snapshot piece h held wanted None (packs_of file) [] stable e order each tells (λ pack at. tt) (λ v i. absurd i) skipped v i on passes,
+        )
 
-abbrev on : ℤ → Version → Bool
-on h v = int_eq v.handle h
-
-find_append : (h : ℤ) (xs ys : List Version) → find (on h) (xs ++ ys) ≡ option_or (find (on h) xs) (find (on h) ys)
-find_append h [] ys = refl
-find_append h (x ∷ xs) ys = by (on h x) (find_append h xs ys)
-  where
-    by : (b : Bool) → find (on h) (xs ++ ys) ≡ option_or (find (on h) xs) (find (on h) ys) → cond b (Some x) (find (on h) (xs ++ ys)) ≡ option_or (cond b (Some x) (find (on h) xs)) (find (on h) ys)
-    by true rest = refl
-    by false rest = rest
-
--- none is found where each is of another handle
-find_other : (h : ℤ) (vs : List Version) → ((v : Version) → In v vs → v.handle ≡ h → ⊥) → find (on h) vs ≡ None
-find_other h vs other = by (find (on h) vs) refl
-  where
-    by : (o : Option Version) → find (on h) vs ≡ o → find (on h) vs ≡ None
-    by None e = e
-    by (Some v) e = let f = find_in (on h) v vs e in absurd (other v (f.0) (int_same v.handle h (f.1)))
-
--- a filter on handles leaves the rows of the handles that pass
-find_kept : (q : ℤ → Bool) (h : ℤ) (vs : List Version) → q h ≡ true → find (on h) (filter (λ (v : Version). q v.handle) vs) ≡ find (on h) vs
-find_kept q h [] passes = refl
-find_kept q h (v ∷ vs) passes = by (on h v) refl (q v.handle) refl (find_kept q h vs passes)
-  where
-    by : (b : Bool) → on h v ≡ b → (c : Bool) → q v.handle ≡ c → find (on h) (filter (λ (v : Version). q v.handle) vs) ≡ find (on h) vs →
-        find (on h) (cond c (v ∷ filter (λ (v : Version). q v.handle) vs) (filter (λ (v : Version). q v.handle) vs)) ≡ cond b (Some v) (find (on h) vs)
-    by true is true out rest = ap (λ b. cond b (Some v) (find (on h) (filter (λ (v : Version). q v.handle) vs))) is
-    by true is false out rest = absurd (true≢false (sym passes ∙ ap q (sym (int_same v.handle h is)) ∙ out))
-    by false is true out rest = ap (λ b. cond b (Some v) (find (on h) (filter (λ (v : Version). q v.handle) vs))) is ∙ rest
-    by false is false out rest = rest
-
--- ---- ranges
-
-both : (a b : Bool) → (a && b) ≡ true → (a ≡ true) × (b ≡ true)
-both true b e = (refl, e)
-both false b e = absurd (true≢false (sym e))
-
-and : (a b : Bool) → a ≡ true → b ≡ true → (a && b) ≡ true
-and true b e f = f
-and false b e f = absurd (true≢false (sym e))
-
-low_high : (h : ℤ) (a : ℤ) (high : Option ℤ) → int_le a h ≡ true → is_below h high ≡ true → is_below a high ≡ true
-low_high h a None le below = refl
-low_high h a (Some high) le below = less a h high le below
-  where
-    less : (a h high : ℤ) → int_le a h ≡ true → int_lt h high ≡ true → int_lt a high ≡ true
-    less a h high p q = grind (arith, ints)
-
-meet_at : (a b : HandleRange) (h : ℤ) → holds a h ≡ true → holds b h ≡ true → meets a b ≡ true
-meet_at a b h x y =
-    let p = both (int_le a.low h) (is_below h a.high) x in
-    let q = both (int_le b.low h) (is_below h b.high) y in
-    and (is_below a.low b.high) (is_below b.low a.high) (low_high h a.low b.high (p.0) (q.1)) (low_high h b.low a.high (q.0) (p.1))
-
--- a piece is needed that has a handle that is asked for
-needed_at : (clip : HandleRange) (cuts : List Cut) (range : HandleRange) (h : ℤ) → holds range h ≡ true → is_asked clip cuts h ≡ true → is_needed clip cuts range ≡ true
-needed_at clip cuts range h held asked =
-    let p = both (holds clip h) (list_any (λ (cut : Cut). holds cut.range h) cuts) asked in
-    and (meets range clip) (list_any (λ (cut : Cut). meets range cut.range) cuts) (meet_at range clip h held (p.0)) (some cuts (p.1))
-  where
-    some : (cuts : List Cut) → list_any (λ (cut : Cut). holds cut.range h) cuts ≡ true → list_any (λ (cut : Cut). meets range cut.range) cuts ≡ true
-    some [] e = e
-    some (cut ∷ cuts) e = by (holds cut.range h) refl e (some cuts)
+    piece_shows : IsWell bytes bound piece → (h : ℤ) → holds piece.range h ≡ true → asked snapshot h ≡ true → ShowsRow bytes snapshot test piece h rows
+    piece_shows well h held wanted = elim (safe_or snapshot bound piece h None (packs_in piece.stable)) [
+      | inl safe ↦ record { stable = well.stable; reads = well.reads; shown = cells_on h (shown_rows snapshot.ts versions); shows = subst (λ (all : Versions). Shows all snapshot.ts (cells_on h (shown_rows snapshot.ts versions))) (λ i d. (present.here h d held ∙ ap (λ vs. after_steps d (after_versions d None vs) (steps_on h (files_of piece.delta))) (r.1 h safe)) i) (shows snapshot.ts versions present.rise h); kept = subst (λ o. KeptAs test o (cells_on h rows)) (ap (option_map (λ (v : Version). v.cells)) (find_kept (asked snapshot) h (shown_rows snapshot.ts versions) wanted)) (kept_of test h (rows_of snapshot versions) rows passes (rows_rise snapshot versions present.rise)) }
+      | inr skipped ↦ (let s = shows_some (view h well.stable (files_of piece.delta)) snapshot.ts in record { stable = well.stable; reads = well.reads; shown = s.0; shows = s.1; kept = none_kept skipped s.0 s.1 })
+    ]
       where
-        or_first : (a b : Bool) → a ≡ true → (a || b) ≡ true
-        or_first true b e = refl
-        or_first false b e = absurd (true≢false (sym e))
+        r : ((v : Version) → In v read → In v well.stable)
+            × ((h : ℤ) → IsSafe snapshot bound piece h None (packs_in piece.stable) → versions_on h read ≡ versions_on h well.stable)
+            × ((h : ℤ) → holds piece.range h ≡ true → asked snapshot h ≡ true → IsSkipped snapshot bound piece h None (packs_in piece.stable) → (v : Version) → In v well.stable → v.handle ≡ h → test v.cells true → ⊥)
+        r = part_read piece.stable well.stable well.reads well.order well.each well.tells is
 
-        or_second : (a b : Bool) → b ≡ true → (a || b) ≡ true
-        or_second true b e = refl
-        or_second false b e = e
+        none_delta : IsSkipped snapshot bound piece h None (packs_in piece.stable) → (stable : List Version) (d : ℕ) (v : Version) → view h stable (files_of piece.delta) d ≡ Some v → In v stable × (v.handle ≡ h)
+        none_delta skipped stable d v e = (let i = had_in h d v stable (view_of h stable piece.delta d v (none_in_delta bound test [] [] keeps snapshot piece h held wanted None (packs_in piece.stable) skipped) e) in (i.0, i.1.0))
 
-        by : (b : Bool) → holds cut.range h ≡ b → (b || list_any (λ (cut : Cut). holds cut.range h) cuts) ≡ true → (list_any (λ (cut : Cut). holds cut.range h) cuts ≡ true → list_any (λ (cut : Cut). meets range cut.range) cuts ≡ true) → (meets range cut.range || list_any (λ (cut : Cut). meets range cut.range) cuts) ≡ true
-        by true is e rest = or_first (meets range cut.range) (list_any (λ (cut : Cut). meets range cut.range) cuts) (meet_at range cut.range h held is)
-        by false is e rest = or_second (meets range cut.range) (list_any (λ (cut : Cut). meets range cut.range) cuts) (rest e)
+        no_row : IsSkipped snapshot bound piece h None (packs_in piece.stable) → cells_on h rows ≡ None
+        no_row skipped = ap (option_map (λ (v : Version). v.cells)) (find_other h rows (λ v i same.
+            let w = row_in v i in
+            let here = subst (λ k. had k versions v.ts ≡ Some v) same (in_had v versions present.rise w.0) in
+            let n = none_delta skipped read v.ts v (sym (present.here h v.ts held) ∙ here) in
+            r.2 h held wanted skipped v (r.0 v n.0) n.1 w.1.1.1))
 
--- handles of ranges that rise
-ordered : (a b : HandleRange) → ends_before a b ≡ true → (h k : ℤ) → holds a h ≡ true → holds b k ≡ true → h <ℤ k
-ordered a b before h k x y = by a.high refl
-  where
-    less : (h high low k : ℤ) → int_lt h high ≡ true → int_le high low ≡ true → int_le low k ≡ true → h <ℤ k
-    less h high low k p q r = grind (arith, ints)
-
-    by : (o : Option ℤ) → a.high ≡ o → h <ℤ k
-    by None e = absurd (true≢false (sym before ∙ ap (λ o. elim o [ None ↦ false | Some high ↦ int_le high b.low ]) e))
-    by (Some high) e = less h high b.low k (sym (ap (is_below h) e) ∙ (both (int_le a.low h) (is_below h a.high) x).1) (sym (ap (λ o. elim o [ None ↦ false | Some high ↦ int_le high b.low ]) e) ∙ before) ((both (int_le b.low k) (is_below k b.high) y).0)
-
-irreflexive : (a b : ℤ) → a <ℤ b → a ≡ b → ⊥
-irreflexive a b less same = grind (arith, ints)
-
--- ---- the rows of a piece
-
-module _ {G : Type 0} (bytes : G → List ℕ) (snapshot : Snapshot G) where
-  abbrev asked : ℤ → Bool
-  asked h = is_asked snapshot.clip snapshot.cuts h
-
-  row_is : (versions : List Version) (v : Version) → In v (rows_of snapshot versions) → In v versions × ((asked v.handle ≡ true) × IsTop snapshot.ts versions v)
-  row_is versions v i =
-      let a = in_filter (λ (v : Version). asked v.handle) v (shown_rows snapshot.ts versions) i in
-      let b = in_filter _ v versions (a.0) in
-      (b.0, (a.1, top snapshot.ts versions v (b.1)))
-
-  rows_rise : (versions : List Version) → Rise versions → AllPairs IsLower (rows_of snapshot versions)
-  rows_rise versions rise = AllPairs-filter IsLower (λ (v : Version). asked v.handle) (shown_rows snapshot.ts versions) (once snapshot.ts versions rise)
-
-  pub are_rows : (versions rows : List Version) → Rise versions → rows ≡ rows_of snapshot versions → AreRowsOrNone snapshot rows
-  are_rows versions rows rise is = subst (AreRowsOrNone snapshot) (sym is) (record {
-    rise = rows_rise versions rise;
-    asked = each_in (λ (v : Version). is_asked snapshot.clip snapshot.cuts v.handle ≡ true) (rows_of snapshot versions) (λ v i. (row_is versions v i).1.0);
-    puts = each_in (λ (v : Version). v.gone ≡ false) (rows_of snapshot versions) (λ v i. (row_is versions v i).1.1.put);
-    old = each_in (λ (v : Version). v.ts ≤ snapshot.ts) (rows_of snapshot versions) (λ v i. (row_is versions v i).1.1.low);
-  })
+        none_kept : IsSkipped snapshot bound piece h None (packs_in piece.stable) → (o : Option (List Cell)) → Shows (view h well.stable (files_of piece.delta)) snapshot.ts o → KeptAs test o (cells_on h rows)
+        none_kept skipped None s = no_row skipped
+        none_kept skipped (Some cells) s = inr (no_row skipped, inr (λ passes. (let n = none_delta skipped well.stable s.0 s.1 s.2.here in r.2 h held wanted skipped s.1 n.0 n.1 (subst (λ cs. test cs true) (sym s.4) passes))))
 
   -- ---- the rows of all pieces
 
@@ -191,12 +108,12 @@ module _ {G : Type 0} (bytes : G → List ℕ) (snapshot : Snapshot G) where
     pub piece : SegmentView G
     pub there : slice_get pieces place ≡ Some piece
     pub held : holds piece.range v.handle ≡ true
-    pub wanted : asked v.handle ≡ true
+    pub wanted : asked snapshot v.handle ≡ true
 
   record Together (pieces : List (SegmentView G)) (rows : List Version) : Type 0 where
     pub rise : AllPairs IsLower rows
     pub from : (v : Version) → In v rows → OfPiece pieces v
-    pub shown : (k : ℕ) (piece : SegmentView G) → slice_get pieces k ≡ Some piece → (h : ℤ) → holds piece.range h ≡ true → asked h ≡ true → ShowsRow bytes snapshot piece h rows
+    pub shown : (k : ℕ) (piece : SegmentView G) → slice_get pieces k ≡ Some piece → IsWell bytes bound piece → (h : ℤ) → holds piece.range h ≡ true → asked snapshot h ≡ true → ShowsRow bytes snapshot test piece h rows
 
   later : (piece : SegmentView G) (more : List (SegmentView G)) (v : Version) → OfPiece more v → OfPiece (piece ∷ more) v
   later piece more v of = record { place = suc of.place; piece = of.piece; there = of.there; held = of.held; wanted = of.wanted }
@@ -224,65 +141,108 @@ module _ {G : Type 0} (bytes : G → List ℕ) (snapshot : Snapshot G) where
     shown = at;
   }
     where
-      at : (k : ℕ) (other : SegmentView G) → slice_get (piece ∷ more) k ≡ Some other → (h : ℤ) → holds other.range h ≡ true → asked h ≡ true → ShowsRow bytes snapshot other h rows
-      at zero other e h held wanted = (let same : piece ≡ other = cc e in absurd (true≢false (sym (needed_at snapshot.clip snapshot.cuts piece.range h (ap (λ (x : SegmentView G). holds x.range h) same ∙ held) wanted) ∙ out)))
-      at (suc k) other e h held wanted = t.shown k other e h held wanted
+      at : (k : ℕ) (other : SegmentView G) → slice_get (piece ∷ more) k ≡ Some other → IsWell bytes bound other → (h : ℤ) → holds other.range h ≡ true → asked snapshot h ≡ true → ShowsRow bytes snapshot test other h rows
+      at zero other e well h held wanted = (let same : piece ≡ other = cc e in absurd (true≢false (sym (needed_at snapshot.clip snapshot.cuts piece.range h (ap (λ (x : SegmentView G). holds x.range h) same ∙ held) wanted) ∙ out)))
+      at (suc k) other e well h held wanted = t.shown k other e well h held wanted
 
-  shown : (piece : SegmentView G) (more : List (SegmentView G)) (versions rows : List Version) → PiecesRise (piece ∷ more) → IsPresent bytes piece.range piece.stable piece.delta versions → Together more rows → Together (piece ∷ more) (rows_of snapshot versions ++ rows)
-  shown piece more versions rows pieces_rise is t = record {
-    rise = pairs_join (rows_of snapshot versions) rows (rows_rise versions is.present.rise) t.rise across;
-    from = λ v i. elim (in_append v (rows_of snapshot versions) rows i) [ inl a ↦ here v a | inr b ↦ later piece more v (t.from v b) ];
+  shown : (piece : SegmentView G) (more : List (SegmentView G)) (here rows : List Version) → PiecesRise (piece ∷ more) → AllPairs IsLower here → ((v : Version) → In v here → (holds piece.range v.handle ≡ true) × (asked snapshot v.handle ≡ true)) → (IsWell bytes bound piece → (h : ℤ) → holds piece.range h ≡ true → asked snapshot h ≡ true → ShowsRow bytes snapshot test piece h here) → Together more rows → Together (piece ∷ more) (here ++ rows)
+  shown piece more here rows pieces_rise rise of shows_here t = record {
+    rise = pairs_join here rows rise t.rise across;
+    from = λ v i. elim (in_append v here rows i) [ inl a ↦ record { place = zero; piece = piece; there = refl; held = (of v a).0; wanted = (of v a).1 } | inr b ↦ later piece more v (t.from v b) ];
     shown = at;
   }
     where
-      held_by : (v : Version) → In v (rows_of snapshot versions) → holds piece.range v.handle ≡ true
-      held_by v i = in_each (λ (v : Version). holds piece.range v.handle ≡ true) versions is.present.within v ((row_is versions v i).0)
-
-      here : (v : Version) → In v (rows_of snapshot versions) → OfPiece (piece ∷ more) v
-      here v i = record { place = zero; piece = piece; there = refl; held = held_by v i; wanted = (row_is versions v i).1.0 }
-
-      across : (v w : Version) → In v (rows_of snapshot versions) → In w rows → IsLower v w
-      across v w i j = (let of = t.from w j in ordered piece.range of.piece.range (before_others piece of.piece more of.place pieces_rise of.there) v.handle w.handle (held_by v i) of.held)
+      across : (v w : Version) → In v here → In w rows → IsLower v w
+      across v w i j = (let o = t.from w j in ordered piece.range o.piece.range (before_others piece o.piece more o.place pieces_rise o.there) v.handle w.handle (of v i).0 o.held)
 
       or_none : (o : Option Version) → option_or o None ≡ o
       or_none None = refl
       or_none (Some v) = refl
 
-      at : (k : ℕ) (other : SegmentView G) → slice_get (piece ∷ more) k ≡ Some other → (h : ℤ) → holds other.range h ≡ true → asked h ≡ true → ShowsRow bytes snapshot other h (rows_of snapshot versions ++ rows)
-      at zero other e h held wanted = subst (λ (x : SegmentView G). ShowsRow bytes snapshot x h (rows_of snapshot versions ++ rows)) same (record { stable = is.stable; reads = is.reads; shows = subst (λ o. Shows (view h is.stable (files_of piece.delta)) snapshot.ts o) (sym cells) by_view })
-        where
-          same : piece ≡ other
-          same = cc e
+      at : (k : ℕ) (other : SegmentView G) → slice_get (piece ∷ more) k ≡ Some other → IsWell bytes bound other → (h : ℤ) → holds other.range h ≡ true → asked snapshot h ≡ true → ShowsRow bytes snapshot test other h (here ++ rows)
+      at zero other e well h held wanted =
+          let same : other ≡ piece = cc (sym e) in
+          let mine : holds piece.range h ≡ true = ap (λ (x : SegmentView G). holds x.range h) (sym same) ∙ held in
+          let none : find (on h) rows ≡ None = find_other h rows (λ w j is_h. (let o = t.from w j in irreflexive h w.handle (ordered piece.range o.piece.range (before_others piece o.piece more o.place pieces_rise o.there) h w.handle mine o.held) (sym is_h))) in
+          let cells : cells_on h (here ++ rows) ≡ cells_on h here = ap (option_map (λ (v : Version). v.cells)) (find_append h here rows ∙ ap (option_or (find (on h) here)) none ∙ or_none (find (on h) here)) in
+          let s = shows_here (subst (IsWell bytes bound) same well) h mine wanted in
+          subst (λ (x : SegmentView G). ShowsRow bytes snapshot test x h (here ++ rows)) (sym same) (record { stable = s.stable; reads = s.reads; shown = s.shown; shows = s.shows; kept = subst (KeptAs test s.shown) (sym cells) s.kept })
+      at (suc k) other e well h held wanted =
+          let s = t.shown k other e well h held wanted in
+          let none : find (on h) here ≡ None = find_other h here (λ v i is_h. irreflexive v.handle h (ordered piece.range other.range (before_others piece other more k pieces_rise e) v.handle h (of v i).0 held) is_h) in
+          let cells : cells_on h (here ++ rows) ≡ cells_on h rows = ap (option_map (λ (v : Version). v.cells)) (find_append h here rows ∙ ap (λ o. option_or o (find (on h) rows)) none) in
+          record { stable = s.stable; reads = s.reads; shown = s.shown; shows = s.shows; kept = subst (KeptAs test s.shown) (sym cells) s.kept }
 
-          mine : holds piece.range h ≡ true
-          mine = ap (λ (x : SegmentView G). holds x.range h) same ∙ held
+  shown_whole : (piece : SegmentView G) (more : List (SegmentView G)) (here rows : List Version) (damage : Option ℕ) → damage ≡ None → Leaves bytes snapshot test piece piece.range [] (read_of snapshot bound piece None (packs_in piece.stable)) here damage → PiecesRise (piece ∷ more) → Together more rows → Together (piece ∷ more) (here ++ rows)
+  shown_whole piece more _ rows _ whole (Whole stable versions here is present passes) rise t =
+      shown piece more here rows rise (rise_here piece here stable versions is present passes)
+      (λ v i. (held_here piece here stable versions is present passes v i, (row_in piece here stable versions is present passes v i).1.0))
+      (piece_shows piece here stable versions is present passes) t
+  shown_whole piece more _ rows _ whole (Stopped first pack others stable versions here at is reads fails present passes) rise t = cc whole
 
-          others : find (on h) rows ≡ None
-          others = find_other h rows (λ w j is_h. (let of = t.from w j in irreflexive h w.handle (ordered piece.range of.piece.range (before_others piece of.piece more of.place pieces_rise of.there) h w.handle mine of.held) (sym is_h)))
-
-          cells : cells_on h (rows_of snapshot versions ++ rows) ≡ cells_on h (shown_rows snapshot.ts versions)
-          cells = ap (option_map (λ (v : Version). v.cells)) (find_append h (rows_of snapshot versions) rows ∙ ap (option_or (find (on h) (rows_of snapshot versions))) others ∙ or_none (find (on h) (rows_of snapshot versions)) ∙ find_kept asked h (shown_rows snapshot.ts versions) wanted)
-
-          by_view : Shows (view h is.stable (files_of piece.delta)) snapshot.ts (cells_on h (shown_rows snapshot.ts versions))
-          by_view = subst (λ (all : Versions). Shows all snapshot.ts (cells_on h (shown_rows snapshot.ts versions))) (λ i d. is.present.here h d mine i) (shows snapshot.ts versions is.present.rise h)
-      at (suc k) other e h held wanted =
-          let s = t.shown k other e h held wanted in
-          let none : find (on h) (rows_of snapshot versions) ≡ None = find_other h (rows_of snapshot versions) (λ v i is_h. irreflexive v.handle h (ordered piece.range other.range (before_others piece other more k pieces_rise e) v.handle h (held_by v i) held) is_h) in
-          let cells : cells_on h (rows_of snapshot versions ++ rows) ≡ cells_on h rows = ap (option_map (λ (v : Version). v.cells)) (find_append h (rows_of snapshot versions) rows ∙ ap (λ o. option_or o (find (on h) rows)) none) in
-          record { stable = s.stable; reads = s.reads; shows = subst (λ o. Shows (view h s.stable (files_of other.delta)) snapshot.ts o) (sym cells) s.shows }
-
-  together : (pieces : List (SegmentView G)) (rows : List Version) (damage : Option ℕ) → Scans bytes snapshot pieces rows damage → damage ≡ None → PiecesRise pieces → Together pieces rows
+  together : (pieces : List (SegmentView G)) (rows : List Version) (damage : Option ℕ) → Scans bytes snapshot test bound pieces rows damage → damage ≡ None → PiecesRise pieces → Together pieces rows
   together [] _ _ End whole rise = record { rise = λ i j d less within. absurd (omega (arith, within)); from = λ v i. absurd i; shown = λ k piece e. cc e }
   together _ _ _ (Passed piece more rows damage out scans) whole rise = passed piece more rows out (together more rows damage scans whole (rest_rises piece more rise))
-  together _ _ _ (Shown piece more versions rows damage needed is scans) whole rise = shown piece more versions rows rise is (together more rows damage scans whole (rest_rises piece more rise))
-  together _ _ _ (Broken piece more at needed broken) whole rise = cc whole
+  together _ _ _ (Shown piece more here rows damage needed is scans) whole rise = shown_whole piece more here rows None refl is rise (together more rows damage scans whole (rest_rises piece more rise))
+  together _ _ _ (Broken piece more rows at needed broken) whole rise = cc whole
 
-  pub are_read : (pieces : List (SegmentView G)) (rows : List Version) → PiecesRise pieces → Scans bytes snapshot pieces rows None → AreRead bytes snapshot pieces rows
+  pub are_read : (pieces : List (SegmentView G)) (rows : List Version) → PiecesRise pieces → Scans bytes snapshot test bound pieces rows None → AreRead bytes snapshot test bound pieces rows
   are_read pieces rows rise scans =
       let t = together pieces rows None scans refl rise in
       record {
         rise = t.rise;
-        asked = λ h out. ap (option_map (λ (v : Version). v.cells)) (find_other h rows (λ v i is_h. true≢false (sym (t.from v i).wanted ∙ ap asked is_h ∙ out)));
+        asked = λ h out. ap (option_map (λ (v : Version). v.cells)) (find_other h rows (λ v i is_h. true≢false (sym (t.from v i).wanted ∙ ap (asked snapshot) is_h ∙ out)));
         within = λ h outside. ap (option_map (λ (v : Version). v.cells)) (find_other h rows (λ v i is_h. (let of = t.from v i in true≢false (sym of.held ∙ ap (holds of.piece.range) is_h ∙ outside of.place of.piece of.there))));
         shown = t.shown;
       }
+
+-- ---- damage
+
+module _ {G : Type 0} (bytes : G → List ℕ) (snapshot : Snapshot G) (test : Answers) (bound : Option Bound) where
+  broken_fold : (columns : List Column) (content : List ℕ) (before stable : List Version) (first : List Pack) (pack : Pack) (more : List Pack) (e : FormError) → fold (with_pack columns content) (Ok before) first ≡ Ok stable → fold (with_pack columns content) (Ok stable) (pack ∷ []) ≡ Err e → fold (with_pack columns content) (Ok before) (first ++ pack ∷ more) ≡ Err e
+  broken_fold columns content before stable first pack more e read fails =
+      fold-append (with_pack columns content) (Ok before) first (pack ∷ more)
+      ∙ ap (λ r. fold (with_pack columns content) r (pack ∷ more)) read
+      ∙ ap (λ r. fold (with_pack columns content) r more) fails
+      ∙ stays_failed columns content more e
+
+  -- a part of which each pack is of the form has no pack that isn't
+  part_whole : (piece : SegmentView G) (part : Option (StableFile G)) (stable after : List Version) (first : List Pack) (pack : Pack) (more : List Pack) (e : FormError) → stable_in bytes part ≡ Ok stable → read_of snapshot bound piece None (packs_in part) ≡ first ++ pack ∷ more → read_in bytes part [] first ≡ Ok after → read_in bytes part after (pack ∷ []) ≡ Err e → ⊥
+  part_whole piece None stable after first pack more e well is read fails = cc fails
+  part_whole piece (Some file) stable after first pack more e well is read fails =
+      let x = reads snapshot bound piece (schema_of file) (bytes (grip_of file)) None (packs_of file) [] [] stable well tt (λ v i. i) in
+      cc (sym x.is ∙ ap (fold (with_pack (schema_of file) (bytes (grip_of file))) (Ok [])) is ∙ broken_fold (schema_of file) (bytes (grip_of file)) [] after first pack more e read fails)
+
+  piece_whole : (piece : SegmentView G) (rows : List Version) (damage : Option ℕ) (at : ℕ) → damage ≡ Some at → IsWell bytes bound piece → Leaves bytes snapshot test piece piece.range [] (read_of snapshot bound piece None (packs_in piece.stable)) rows damage → ⊥
+  piece_whole piece _ _ at is well (Whole stable versions rows read present passes) = cc is
+  piece_whole piece _ _ at is well (Stopped first pack more stable versions rows place same read fails present passes) = part_whole piece piece.stable well.stable stable first pack more (form.Damaged place) well.reads same read fails
+
+  all_whole : (pieces : List (SegmentView G)) (rows : List Version) (damage : Option ℕ) (at : ℕ) → damage ≡ Some at → AllByRecursion (λ (piece : SegmentView G). IsWell bytes bound piece) pieces → Scans bytes snapshot test bound pieces rows damage → ⊥
+  all_whole _ _ _ at is well End = cc is
+  all_whole _ _ _ at is well (Passed piece more rows damage out scans) = all_whole more rows damage at is well.1 scans
+  all_whole _ _ _ at is well (Shown piece more here rows damage needed shows scans) = all_whole more rows damage at is well.1 scans
+  all_whole _ _ _ at is well (Broken piece more rows place needed shows) = piece_whole piece rows (Some place) place refl well.0 shows
+
+  pub whole : (pieces : List (SegmentView G)) (rows : List Version) (at : ℕ) → AllByRecursion (λ (piece : SegmentView G). IsWell bytes bound piece) pieces → Scans bytes snapshot test bound pieces rows (Some at) → ⊥
+  whole pieces rows at well scans = all_whole pieces rows (Some at) at refl well scans
+
+  -- ---- one scan behind another
+
+  goes_on : (first others : List (SegmentView G)) (rows later : List Version) (before damage : Option ℕ) → before ≡ None → Scans bytes snapshot test bound first rows before → Scans bytes snapshot test bound others later damage → Scans bytes snapshot test bound (first ++ others) (rows ++ later) damage
+  goes_on _ others _ later _ damage none End second = second
+  goes_on _ others _ later _ damage none (Passed piece more rows before out scans) second = Passed piece (more ++ others) (rows ++ later) damage out (goes_on more others rows later before damage none scans second)
+  goes_on _ others _ later _ damage none (Shown piece more here rows before needed shows scans) second =
+      subst (λ vs. Scans bytes snapshot test bound (piece ∷ more ++ others) vs damage) (sym (append_assoc here rows later)) (Shown piece (more ++ others) here (rows ++ later) damage needed shows (goes_on more others rows later before damage none scans second))
+  goes_on _ others _ later _ damage none (Broken piece more rows at needed shows) second = cc none
+
+  ends : (first others : List (SegmentView G)) (rows : List Version) (before : Option ℕ) (at : ℕ) → before ≡ Some at → Scans bytes snapshot test bound first rows before → Scans bytes snapshot test bound (first ++ others) rows (Some at)
+  ends _ others _ _ at is End = cc is
+  ends _ others _ _ at is (Passed piece more rows before out scans) = Passed piece (more ++ others) rows (Some at) out (ends more others rows before at is scans)
+  ends _ others _ _ at is (Shown piece more here rows before needed shows scans) = Shown piece (more ++ others) here rows (Some at) needed shows (ends more others rows before at is scans)
+  ends _ others _ _ at is (Broken piece more rows place needed shows) = subst (λ o. Scans bytes snapshot test bound (piece ∷ more ++ others) rows o) is (Broken piece (more ++ others) rows place needed shows)
+
+  pub follow : (first others : List (SegmentView G)) → ScansFollow bytes snapshot test bound first others
+  follow first others = record {
+    goes_on = λ rows later damage scans second. goes_on first others rows later None damage refl scans second;
+    ends = λ rows at scans. ends first others rows (Some at) at refl scans;
+  }

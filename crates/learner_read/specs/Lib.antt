@@ -1,4 +1,7 @@
 pub mod Laws
+pub mod Left
+pub mod Packs
+pub mod Parts
 pub mod Pieces
 pub mod Rows
 pub mod Scans

@@ -1,12 +1,14 @@
 // The rows that a block of versions shows.
-ghost use Rattle.std.specs.Prelude.{◌≡◌, ◌&&◌, ◌<◌, length, map, slice_get, Some, IfOk};
+ghost use Rattle.std.specs.Prelude.{◌≡◌, ◌&&◌, ◌<◌, length, map, slice_get, [], ◌∷◌, ◌++◌, if◌then◌else◌, Some, IfOk, OnOk};
 ghost use Rattle.std.specs.List.{list_any};
 ghost use Rattle.flash_types.specs.Ranges.{holds};
 ghost use Rattle.column_block.specs.Order.{Rise};
 ghost use Rattle.learner_read.specs.Rows.{is_asked, is_shown, rows_within, shown_rows};
+ghost use Rattle.learner_read.specs.Scans.{Pass, answers_of};
 
-use column_block::{Block, Memory};
+use column_block::{Block, Cells, Memory};
 use flash_types::{Cut, Handle, HandleRange, Ts};
+use sieve::Sieve;
 use std::alloc::Global;
 
 // Whether the range of one of the cuts holds the handle.
@@ -87,4 +89,35 @@ pub fn shown(
     }
     let rows = block.permuted(places.as_slice())?;
     Ok(rows)
+}
+
+// Adds a place, where it counts.
+fn add_if(places: &mut Vec<u64>, place: usize, counts: bool) -> Result<(), Memory>
+    ensures { OnOk result (places.new.items ≡ (if counts then places.old.items ++ place ∷ [] else places.old.items)) }
+{
+    if !counts {
+        return Ok(());
+    }
+    match places.push(place as u64) {
+        Ok(()) => Ok(()),
+        Err(_) => Err(Memory),
+    }
+}
+
+// The rows whose cells pass the sieve.
+pub fn passing<F: Fn(&Cells) -> bool>(
+    alloc: Global,
+    sieve: &Sieve<F>,
+    rows: &Block,
+) -> Result<Block, Memory>
+    requires { F.IsAlwaysCallable sieve.now.test }
+    ensures { IfOk result (λ passed. Pass (answers_of F.Fn sieve.now.test) rows.now passed) }
+{
+    let mut places: Vec<u64> = Vec::new(alloc);
+    for i in 0..rows.len() {
+        let row = rows.at(i);
+        add_if(&mut places, i, sieve.passes(&row.cells))?;
+    }
+    let passed = rows.permuted(places.as_slice())?;
+    Ok(passed)
 }

@@ -16,6 +16,8 @@ pub struct Snapshot<G> {
     pieces: Items<SegmentView<G>>,
     count: u64,
     generation: u64,
+    pack_rows: u32,
+    pub ghost some: { 0 < pack_rows },
     pub ghost rise: { PiecesRise pieces },
     pub ghost apart: { CutsAreApart cuts },
 }
@@ -23,7 +25,8 @@ pub struct Snapshot<G> {
 impl<G> Snapshot<G> {
     /// The snapshot with these parts. The pieces' ranges rise and are disjoint, and so are the cuts'
     /// ranges, in any order. `count` is the number of changes that the replica had seen, and
-    /// `generation` that of its files. It takes no memory.
+    /// `generation` that of its files. A block of a scan has at most `pack_rows` rows. It takes no
+    /// memory.
     pub fn new(
         ts: Ts,
         clip: HandleRange,
@@ -31,7 +34,9 @@ impl<G> Snapshot<G> {
         pieces: Vec<SegmentView<G>>,
         count: u64,
         generation: u64,
+        pack_rows: u32,
     ) -> Snapshot<G>
+        requires rows { 0 < pack_rows }
         requires rise { PiecesRise pieces.items }
         requires apart { CutsAreApart cuts.items }
         ensures ts { result.ts ≡ ts }
@@ -40,6 +45,7 @@ impl<G> Snapshot<G> {
         ensures pieces { result.pieces ≡ pieces.items }
         ensures count { result.count ≡ count }
         ensures generation { result.generation ≡ generation }
+        ensures pack_rows { result.pack_rows ≡ pack_rows }
     {
         Snapshot {
             ts,
@@ -48,6 +54,7 @@ impl<G> Snapshot<G> {
             pieces: Items::from_vec(pieces),
             count,
             generation,
+            pack_rows,
         }
     }
 
@@ -108,5 +115,13 @@ impl<G> Snapshot<G> {
         ensures { result ≡ self.now.generation }
     {
         self.generation
+    }
+
+    /// The greatest number of rows that a block of a scan has.
+    pub fn pack_rows(&self) -> u32
+        ensures same { result ≡ self.now.pack_rows }
+        ensures some { 0 < result }
+    {
+        self.pack_rows
     }
 }

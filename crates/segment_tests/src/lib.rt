@@ -6,6 +6,8 @@ mod index;
 #[cfg(test)]
 mod layers;
 #[cfg(test)]
+mod packs;
+#[cfg(test)]
 mod scans;
 #[cfg(test)]
 mod splits;

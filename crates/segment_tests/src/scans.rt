@@ -11,6 +11,7 @@ use flash_io::Disk;
 use flash_mem::{MemDisk, MemGrip, MemReader};
 use flash_types::{Cut, Epoch, HandleRange};
 use learner_read::{Snapshot, scan};
+use sieve::Sieve;
 use stable_file::{ReadError, StableFile, open};
 use std::alloc::Global;
 use std::test::Fail;
@@ -137,7 +138,7 @@ fn read_at(
     let Ok(()) = pieces.push(view) else {
         return Err(Fail::from("memory"));
     };
-    Ok(Snapshot::new(ts, clip, cuts, pieces, 0, 0))
+    Ok(Snapshot::new(ts, clip, cuts, pieces, 0, 0, 8))
 }
 
 // Whether a row has the number 5 and the text `ab`, or the number 1 and null.
@@ -166,7 +167,8 @@ fn all_rows(
     reader: &mut MemReader,
 ) -> Result<Block, ReadError> {
     let mut rows = Block::new(alloc);
-    let mut scan = scan(alloc, snapshot, reader);
+    let all = Sieve::new(|_: &Cells| true, None);
+    let mut scan = scan(alloc, snapshot, reader, &all);
     for _ in 0..4 {
         match scan.next_block() {
             Ok(Some(block)) => {
@@ -348,7 +350,8 @@ fn a_damaged_pack_is_named_again(rt: HostRuntime) -> Result<(), Fail> {
     let mut reader = disk.reader();
     let layer = DeltaLayer::new(alloc);
     let snapshot = read_at(alloc, 10, ALL, view_of(&layer, Some(stable))?)?;
-    let mut scan = scan(alloc, &snapshot, &mut reader);
+    let all = Sieve::new(|_: &Cells| true, None);
+    let mut scan = scan(alloc, &snapshot, &mut reader, &all);
     let first = scan.next_block().err();
     assert!(rt; matches!(first, Some(ReadError::Damaged { at }) if at >= 4));
     assert_eq!(rt; scan.next_block().err(), first);
@@ -365,7 +368,10 @@ fn a_failed_read_is_not_tried_again(rt: HostRuntime) -> Result<(), Fail> {
     let mut reader = disk.reader();
     let layer = DeltaLayer::new(alloc);
     let snapshot = read_at(alloc, 10, ALL, view_of(&layer, Some(stable))?)?;
-    let mut scan = scan(alloc, &snapshot, &mut reader);
+    let all = Sieve::new(|_: &Cells| true, None);
+    let mut scan = scan(alloc, &snapshot, &mut reader, &all);
+    // the first pack is read, and then the second
+    assert!(rt; matches!(scan.next_block(), Ok(Some(_))));
     assert_eq!(rt; scan.next_block().err(), Some(ReadError::Device));
     assert_eq!(rt; scan.next_block().err(), Some(ReadError::Device));
     Ok(())

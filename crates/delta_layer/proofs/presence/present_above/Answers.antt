@@ -2,7 +2,7 @@ use Rattle.std.proofs.Common.{◌∙◌, ap, drop}
 use Rattle.delta_layer.specs.Overlay.{any_holds, merged, picked}
 use Rattle.column_block.proofs.Ordered.{up_from_rises}
 use Rattle.delta_layer.proofs.Overlaid.{overlay_is}
-use Rattle.delta_layer.proofs.presence.overlaid.Goals as goal
+use Rattle.delta_layer.proofs.presence.present_above.Goals as goal
 
 pub returns : goal.returns
 returns c =
