@@ -1,5 +1,8 @@
 // Scans over a stable file of a hundred packs, of which each has one row: which packs are read, by a
 // reader that fails at a call, and what damage in one of them changes.
+ghost use Rattle.std.specs.Prelude.{IfOk};
+ghost use Rattle.column_block.specs.Order.{Rise};
+
 use column_block::{Block, Bound, Cell, Cells, Column, Kind, Schema, Version};
 use column_file::ColumnFile;
 use delta_layer::{DeltaLayer, SegmentView, stable_piece};
@@ -100,7 +103,9 @@ fn opened(
 }
 
 // The rows as a segment has them, in their order.
-fn present_rows(alloc: Global, rows: Block) -> Result<Block, Fail> {
+fn present_rows(alloc: Global, rows: Block) -> Result<Block, Fail>
+    ensures { IfOk result (λ versions. Rise versions) }
+{
     let mut layer = DeltaLayer::new(alloc);
     let Ok(()) = layer.append(ColumnFile::Mem { block: rows }) else {
         return Err(Fail::from("memory"));
