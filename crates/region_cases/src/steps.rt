@@ -1,4 +1,4 @@
-// The steps of a case: `apply FROM TO` applies the entries from one position up to and without the
+// The steps of a case: `parse AT` prints what an entry says to its region, `apply FROM TO` applies the entries from one position up to and without the
 // other, `apply AT` one, `file` writes the table and opens what was written in its place, `over LOG`
 // and `with AT BYTE` open it over another log, or with a byte of it changed, and print what that
 // gives. `reads` has the others.
@@ -46,12 +46,28 @@ fn run_step<R: Files + Print + AllocGlobal>(
 {
     let words: Vec<&str> = step.split_whitespace().collect(rt.alloc())?;
     match *words.as_slice() {
+        ["parse", position] => parse_at(rt, logs, number(position)),
         ["apply", position] => apply_at(rt, logs, table, number(position)),
         ["apply", from, to] => apply_range(rt, logs, table, number(from), number(to)),
         ["file"] => reopen(rt, logs, table),
         ["over", file] => open_over(rt, table, file),
         ["with", at, byte] => open_with(rt, logs, table, number(at), number(byte)),
         _ => show(rt, logs, table, words.as_slice()),
+    }
+}
+
+fn parse_at<R: Print + AllocGlobal>(rt: &R, logs: &Logs, position: u64) -> io::Result<()> {
+    if position >= logs.len() {
+        return println!(rt; "no entry");
+    }
+    match parse(rt.alloc(), logs, position) {
+        Ok(parsed) => {
+            println!(rt;
+                "region {} index {} {:?}",
+                parsed.region, parsed.index, parsed.command
+            )
+        }
+        Err(_) => println!(rt; "want of memory"),
     }
 }
 
