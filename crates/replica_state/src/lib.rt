@@ -5,6 +5,8 @@
 mod apply;
 mod laws;
 mod numbers;
+mod queries;
+mod reads;
 mod state;
 
 pub use apply::Applied;
