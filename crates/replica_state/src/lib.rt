@@ -1,0 +1,19 @@
+//! What a replica has in memory: its segments, its regions, and which entries of the log are
+//! applied. It knows no disk.
+#![tactic(auto)]
+
+mod apply;
+mod laws;
+mod numbers;
+mod queries;
+mod reads;
+mod state;
+
+pub use apply::Applied;
+pub use laws::applied_states_keep_sets;
+pub use numbers::Numbers;
+pub use state::State;
+
+/// Memory ran out.
+#[derive(Clone, Copy, Debug, PartialEq, Eq)]
+pub struct Memory;
