@@ -1,6 +1,9 @@
 -- The files of a list that nothing names.
-use Rattle.std.proofs.Common.{◌≡◌, ◌∙◌, refl, sym, ap, zero, suc, Bool, true, false, not, cond, List, [], ◌∷◌, filter, arith}
+use Rattle.std.proofs.Common.{ℕ, ◌≡◌, ◌∙◌, refl, sym, ap, zero, suc, Bool, true, false, not, cond, List, [], ◌∷◌, filter, arith}
 use Rattle.std.specs.List.{Contains}
+use Rattle.manifest_form.specs.declared.state.State.{State}
+use Rattle.manifest.specs.declared.store.Manifest.{Manifest}
+use Rattle.replica_store.specs.Naming.{is_stray}
 
 behind : {X : Type 0} (y : X) (ys : List X) (x : X) → Contains ys x → Contains (y ∷ ys) x
 behind y ys x h = (let less = h.1 in (suc h.0, omega arith, h.2))
@@ -25,10 +28,8 @@ module _ {X : Type 0} (p : X → Bool) where
   filter_has [] x (k, less, is) passes = absurd (omega (arith, less))
   filter_has (y ∷ ys) x h passes = has_rest y ys x passes (λ h. filter_has ys x h passes) (p y) refl h
 
-pub is_false : (b : Bool) → not b ≡ true → b ≡ false
-is_false false h = refl
-is_false true h = absurd (cc h)
-
-pub not_false : (b : Bool) → b ≡ false → not b ≡ true
-not_false false h = refl
-not_false true h = absurd (cc h)
+-- the same manifest has the same strays
+pub same_strays : (new old : Manifest) (file : ℕ) (state : State) (retired files : List ℕ) → new ≡ old → file ≡ new.file → state ≡ new.state → filter (is_stray file state retired) files ≡ filter (is_stray old.file old.state retired) files
+same_strays new old file state retired files same is_file is_state =
+    ap (λ (f : ℕ). filter (is_stray f state retired) files) (is_file ∙ ap (λ (m : Manifest). m.file) same)
+    ∙ ap (λ (s : State). filter (is_stray old.file s retired) files) (is_state ∙ ap (λ (m : Manifest). m.state) same)

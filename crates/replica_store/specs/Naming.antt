@@ -1,8 +1,5 @@
 -- Which files of a disk a store names.
-use Rattle.std.specs.Prelude.{ℕ, Bool, false, not, ◌||◌, ◌==◌, Option, Some, None, is_some, List, filter}
-use Rattle.std.specs.BTreeMap.{is_at}
-use Rattle.std.specs.Map.{lookup}
-use Rattle.std.specs.Ordering.{nat_cmp}
+use Rattle.std.specs.Prelude.{ℕ, Bool, false, not, ◌||◌, ◌==◌, Option, Some, None, List}
 use Rattle.std.specs.List.{list_any}
 use Rattle.manifest_form.specs.declared.state.State.{State}
 use Rattle.manifest_form.specs.declared.state.StoredFile.{StoredFile}
@@ -29,10 +26,14 @@ is_file_in file s = is_number file s.regions || list_any (is_file_of file) s.seg
 abbrev pub is_named : ℕ → State → ℕ → Bool
 is_named own s file = file == 0 || (file == own || is_file_in file s)
 
--- whether a map has a number
-abbrev pub has_number : List (ℕ × Unit {0}) → ℕ → Bool
-has_number numbers file = is_some (lookup (is_at (nat_cmp file)) numbers)
+-- one of these
+abbrev pub is_among : List ℕ → ℕ → Bool
+is_among files file = list_any (λ other. other == file) files
 
--- of the files of a list those that nothing names
-abbrev pub unnamed : ℕ → State → List ℕ → List ℕ
-unnamed own s files = filter (λ file. not (is_named own s file)) files
+-- named, or one of the retired
+abbrev pub is_known : ℕ → State → List ℕ → ℕ → Bool
+is_known own s retired file = is_named own s file || is_among retired file
+
+-- a file that nothing needs
+abbrev pub is_stray : ℕ → State → List ℕ → ℕ → Bool
+is_stray own s retired file = not (is_known own s retired file)

@@ -8,6 +8,7 @@
 mod reading;
 mod shown;
 mod store;
+mod strays;
 mod writing;
 
 pub use store::{MOST_NEXT, Store};
