@@ -1,0 +1,5 @@
+mod Following
+mod Applying
+mod Flushing
+mod Raising
+mod Checking
