@@ -1,5 +1,5 @@
 -- The snapshot that a read takes of a replica's segments.
-use Rattle.std.specs.Prelude.{◌≡◌, ℕ, Bool, true, List, map, filter, int_le}
+use Rattle.std.specs.Prelude.{◌≡◌, ℕ, Bool, true, List, [], ◌∷◌, ◌++◌, map, filter, int_le}
 use Rattle.std.specs.List.{All}
 use Rattle.std.specs.Option.{ForSome}
 use Rattle.flash_types.specs.Ranges.{least_handle}
@@ -24,6 +24,10 @@ module _ {G : Type 0} where
   -- the views of the segments that it needs, in their order
   abbrev pub needed_views : HandleRange → List Cut → List (Slotted G) → List (SegmentView G)
   needed_views clip cuts slots = map view_of (filter (needs_slot clip cuts) slots)
+
+  -- pieces with the view of one more segment, where the read needs it
+  abbrev pub with_slot : HandleRange → List Cut → Slotted G → List (SegmentView G) → List (SegmentView G)
+  with_slot clip cuts s pieces = pieces ++ needed_views clip cuts (s ∷ [])
 
   -- the packs of its stable part, if it has one, are those of an open file
   abbrev pub HasOpenFile : SegmentView G → Type 0

@@ -26,8 +26,8 @@ ghost use Rattle.segment_snapshot.specs.Views.{IsSnapshotOf, needed_views};
 use column_block::Cells;
 use flash_io::Gripped;
 
-/// A snapshot of a replica's segments gives the log's rows to each scan, where the segments are good
-/// for the log and read, the read isn't refused, and the snapshot's cuts are those of its regions.
+/// A snapshot of a replica's segments gives the log's rows to each scan, where the segments are
+/// good for the log and read, the read isn't refused, and the cuts are those of its regions.
 pub fn good_segments_give_right_scans<G>()
     ensures { (bytes : G → List ℕ) (log : Log) → IsLawful log
         → (A : ℕ → Bool) → IsClosed log A
@@ -40,10 +40,12 @@ pub fn good_segments_give_right_scans<G>()
         → IsRightScan bytes log A ask snapshot }
 {}
 
-/// Where all that a closure may answer is what a function gives, its scans are those by the function.
+/// Where all that a closure may answer is what a function gives, its scans are those by the
+/// function.
 pub fn scans_by_a_function<G: Gripped, F: Fn(&Cells) -> bool>()
     ensures { (snapshot : Snapshot G) (f : F) (passes : List Cell → Bool)
-        → ((cells : List Cell) (answer : Bool) → answers_of F.Fn f cells answer → passes cells ≡ answer)
+        → ((cells : List Cell) (answer : Bool) → answers_of F.Fn f cells answer
+        → passes cells ≡ answer)
         → (bound : Option Bound) (pieces : List (SegmentView G))
         → (found : List Version) (damage : Option ℕ)
         → Scans G.Gripped.bytes snapshot (answers_of F.Fn f) bound pieces found damage
@@ -56,7 +58,7 @@ pub fn footers_tell_each_column()
         → tail_at len columns tail ≡ Ok packs → TellColumns (length columns) packs }
 {}
 
-/// Footers that tell of so many columns tell of the column of a bound that is one of them, and where
+/// Footers that tell of so many columns tell of the column of a bound that is one of them; where
 /// there is no bound nothing is asked of them. A snapshot has the stable files of its segments.
 pub fn columns_tell_a_bound<G>()
     ensures none { (pieces : List (SegmentView G)) → TellBound None pieces }
@@ -64,7 +66,8 @@ pub fn columns_tell_a_bound<G>()
         → bound.column < columns
         → AllByRecursion (λ piece. TellColumns columns (packs_in piece.stable)) pieces
         → TellBound (Some bound) pieces }
-    ensures shared { (clip : HandleRange) (cuts : List Cut) (columns : ℕ) (slots : List (Slotted G))
+    ensures shared { (clip : HandleRange) (cuts : List Cut) (columns : ℕ)
+        → (slots : List (Slotted G))
         → AllByRecursion (λ slot. TellColumns columns (packs_in slot.stable)) slots
         → (pieces : List (SegmentView G)) → pieces ≡ needed_views clip cuts slots
         → AllByRecursion (λ piece. TellColumns columns (packs_in piece.stable)) pieces }

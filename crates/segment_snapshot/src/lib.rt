@@ -1,5 +1,5 @@
-//! What a read sees of a replica's segments: a snapshot that shares those that it needs, and the law
-//! that a scan of it gives the log's rows.
+//! What a read sees of a replica's segments: a snapshot that shares those that it needs, and the
+//! law that a scan of it gives the log's rows.
 #![tactic(auto)]
 
 mod laws;

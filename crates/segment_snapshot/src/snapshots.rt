@@ -1,11 +1,11 @@
 // The snapshot of the segments that a read needs.
-ghost use Rattle.std.specs.Prelude.{◌≡◌, ◌≤◌, ◌<◌, ◌++◌, [], ◌∷◌, true, int_le, List, length, map, take, OnOk, IfOk};
+ghost use Rattle.std.specs.Prelude.{◌≡◌, ◌≤◌, ◌<◌, [], true, int_le, List, length, map, take, OnOk, IfOk};
 ghost use Rattle.flash_types.specs.Ranges.{is_below, least_handle};
 ghost use Rattle.flash_types.specs.declared.refusal.Cut.{Cut};
 ghost use Rattle.good_replica.specs.Good.{CoversFrom};
 ghost use Rattle.learner_read.specs.Pieces.{CutsAreApart};
 ghost use Rattle.segment_list.specs.Lists.{range_alone};
-ghost use Rattle.segment_snapshot.specs.Views.{AreNeeded, HasOpenFile, IsSnapshotOf, needed_views, view_of};
+ghost use Rattle.segment_snapshot.specs.Views.{AreNeeded, HasOpenFile, IsSnapshotOf, needed_views, view_of, with_slot};
 
 use delta_layer::SegmentView;
 use flash_types::{Cut, Handle, HandleRange, Ts};
@@ -46,7 +46,7 @@ fn add<G: Drop>(
     clip: HandleRange,
     cuts: &[Cut],
 ) -> Result<(), Memory>
-    ensures { OnOk result (pieces.new.items ≡ pieces.old.items ++ needed_views clip cuts.now (slot.now ∷ [])) }
+    ensures { OnOk result (pieces.new.items ≡ with_slot clip cuts.now slot.now pieces.old.items) }
 {
     if !is_needed(clip, cuts, slot.range()) {
         return Ok(());
