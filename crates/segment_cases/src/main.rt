@@ -1,6 +1,6 @@
 //! Runs the calls of segments on cases that can be read, and prints what each gave. A line of the
-//! file `cases` is a step, as `steps` says them; a line that begins with `#` is the title of a case,
-//! which begins anew with nothing made.
+//! file `cases` is a step, as `steps` says them; a line that begins with `#` is the title of a
+//! case, which begins anew with nothing made.
 #![tactic(auto)]
 
 mod bench;

@@ -156,7 +156,8 @@ pub fn show_blocks<R: Print + AllocGlobal>(
     Ok(())
 }
 
-/// Prints what the first call gives of a scan of the rows that have this number in the first column.
+/// Prints what the first call gives of a scan of the rows that have this number in the first
+/// column.
 pub fn show_only<R: Print + AllocGlobal>(
     rt: &R,
     snapshot: &Snapshot<MemGrip>,

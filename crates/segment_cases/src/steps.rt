@@ -1,12 +1,13 @@
-// The steps of a case. Of an index: `extend VERSION..` adds a file, `clear RANGE` tells what is left
-// without a range, `entries` and `first HANDLE..` what it has. Of a delta: `mem VERSION..` and
-// `delete RANGE` add a file, `back` takes the last one back, `keep` keeps a view and `kept` shows it,
-// `flush VERSION.. | VERSION..` and `compact VERSION.. | VERSION..` are of a delta of their own. Of a
-// segment: `columns KIND..` and `range RANGE` say what it has, `stable ROWS` makes its present
-// versions its stable file, `flip PACK` and `byte AT BYTE` change that file, `failing CALL..` lets its
-// readers fail, `present` shows its versions, and `split ROWS` splits it. Of a read: `snapshot TS
-// RANGE` takes one, `rows` and `count` scan it to its end, `blocks CALLS` calls by call, `pieces FROM
-// TO CALLS` of some pieces, and `only NUMBER` asks for the first rows with a number.
+// The steps of a case. Of an index: `extend VERSION..` adds a file, `clear RANGE` tells what is
+// left without a range, `entries` and `first HANDLE..` what it has. Of a delta: `mem VERSION..`
+// and `delete RANGE` add a file, `back` takes the last one back, `keep` keeps a view and `kept`
+// shows it, `flush VERSION.. | VERSION..` and `compact VERSION.. | VERSION..` are of a delta of
+// their own. Of a segment: `columns KIND..` and `range RANGE` say what it has, `stable ROWS`
+// makes its present versions its stable file, `flip PACK` and `byte AT BYTE` change that file,
+// `failing CALL..` lets its readers fail, `present` shows its versions, and `split ROWS` splits
+// it. Of a read: `snapshot TS RANGE` takes one, `rows` and `count` scan it to its end, `blocks
+// CALLS` call by call, `pieces FROM TO CALLS` of some pieces, and `only NUMBER` asks for the
+// first rows with a number.
 use crate::bench::Bench;
 use crate::files::{build, flip, set_byte};
 use crate::pair::{show_compacted, show_flushed};

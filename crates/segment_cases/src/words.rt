@@ -1,7 +1,7 @@
-// What words say. A version is `HANDLE@TS`, with a stroke and a cell behind it for each of its cells:
-// `null`, `iN`, `uN`, `xHEX`, or `own`, the handle as a signed number. One that is gone is
-// `HANDLE@TS/gone`. `LOW..HIGH@TS` is a version of each handle from the low end up to and without the
-// high one. A range is `LOW..HIGH`; an end that isn't there is none.
+// What words say. A version is `HANDLE@TS`, with a stroke and a cell behind it for each of its
+// cells: `null`, `iN`, `uN`, `xHEX`, or `own`, the handle as a signed number. One that is gone is
+// `HANDLE@TS/gone`. `LOW..HIGH@TS` is a version of each handle from the low end up to and without
+// the high one. A range is `LOW..HIGH`; an end that isn't there is none.
 use crate::trouble::Trouble;
 use column_block::{Block, Cell, CellBytes, Cells, Column, Kind, Schema, Version};
 use flash_types::HandleRange;
