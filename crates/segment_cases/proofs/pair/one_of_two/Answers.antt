@@ -2,7 +2,7 @@ use Rattle.std.proofs.Common.{◌≡◌, ◌∙◌, ◌∷◌, [], ◌++◌, sym
 use Rattle.column_file.specs.declared.file.ColumnFile.TheVariants.{Tiny}
 use Rattle.delta_layer.specs.Repacked.{CanCompact}
 use Rattle.delta_layer.proofs.Repacking.{pair_can_compact}
-use Rattle.segment_tests.proofs.layers.one_of_two.Goals as goal
+use Rattle.segment_cases.proofs.pair.one_of_two.Goals as goal
 
 pub compacted-requires : goal.compacted-requires
 compacted-requires c =

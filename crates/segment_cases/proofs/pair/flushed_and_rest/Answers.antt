@@ -2,7 +2,7 @@ use Rattle.std.proofs.Common.{◌≡◌, ◌∙◌, ◌∷◌, [], ◌++◌, sym
 use Rattle.column_file.specs.declared.file.ColumnFile.TheVariants.{Mem, Tiny}
 use Rattle.delta_layer.specs.Repacked.{CanFlush}
 use Rattle.delta_layer.proofs.Repacking.{pair_can_flush}
-use Rattle.segment_tests.proofs.layers.flushed_and_rest.Goals as goal
+use Rattle.segment_cases.proofs.pair.flushed_and_rest.Goals as goal
 
 pub flushed-requires : goal.flushed-requires
 flushed-requires c =
