@@ -1,0 +1,6 @@
+use Rattle.std.proofs.Common.{◌≡◌, ◌-◌, drop, map, take}
+use Rattle.segment_work.specs.Begun.{view_of}
+use Rattle.segment_work.proofs.work.views_at.Given as goal
+
+abbrev pub invariant-loop-i : goal.invariant-loop-i
+invariant-loop-i g l = l.views ≡ map view_of (take (l.i - l.place) (drop l.place l.slots))
