@@ -57,7 +57,7 @@ module _ {G : Type 0} (s : Core G) (lawful : IsLawful s.log) (is : IsCore s) (p 
   suit : AllByRecursion (Suits s.log.schema) (added s.log p)
   suit = recursion_from_All (Suits s.log.schema) (added s.log p) (added_suit s.log lawful p)
 
-  slots_now : AreSlots (with_entry s p t)
+  slots_now : AreSlots s.log.schema s.numbers.next s.committed (length (s.listed ++ p ∷ [])) (map (absorbed (length s.listed + 1) (clearing s.log p) (added s.log p)) s.slots)
   slots_now =
       let clears = clearing s.log p in
       let adds = added s.log p in

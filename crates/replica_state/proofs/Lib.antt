@@ -2,3 +2,4 @@ pub mod Sets
 pub mod Slots
 pub mod Applies
 pub mod Cutting
+pub mod Opened

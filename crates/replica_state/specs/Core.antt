@@ -89,11 +89,11 @@ view_of s = record { seg = s.id; range = s.range; epoch = s.epoch; delta = s.fil
 abbrev pub SlotSuits : {G : Type 0} → List Column → Slotted G → Type 0
 SlotSuits columns s = ViewSuits columns (view_of s)
 
--- The slots, each by itself; that they cover the handles is told by their list.
-pub record AreSlots {G : Type 0} (s : Core G) : Type 0 where
-  pub order : AllByRecursion (IsSlot s.committed (length s.listed)) s.slots
-  pub numbered : AllByRecursion (IsNumbered s.numbers.next) s.slots
-  pub suit : AllByRecursion (SlotSuits s.log.schema) s.slots
+-- Slots, each in order by itself, where `committed` of the `last` entries that were applied are named; that they cover the handles is told by their list.
+pub record AreSlots {G : Type 0} (columns : List Column) (next committed last : ℕ) (slots : List (Slotted G)) : Type 0 where
+  pub order : AllByRecursion (IsSlot committed last) slots
+  pub numbered : AllByRecursion (IsNumbered next) slots
+  pub suit : AllByRecursion (SlotSuits columns) slots
 
 -- ---- the numbers
 
@@ -107,6 +107,6 @@ pub record AreNumbers (n : ℕ) (numbers : Numbers) : Type 0 where
 -- What a replica has in memory is in order.
 pub record IsCore {G : Type 0} (s : Core G) : Type 0 where
   pub sets : AreSets s
-  pub slots : AreSlots s
+  pub slots : AreSlots s.log.schema s.numbers.next s.committed (length s.listed) s.slots
   pub numbers : AreNumbers (length s.log.entries) s.numbers
   pub settings : AreSettings s.settings

@@ -1,3 +1,4 @@
 pub mod Core
 pub mod Applying
 pub mod Reads
+pub mod Opening

@@ -5,6 +5,7 @@
 mod apply;
 mod laws;
 mod numbers;
+mod opening;
 mod queries;
 mod reads;
 mod state;
