@@ -1,5 +1,5 @@
-mod Following
-mod Applying
-mod Flushing
-mod Raising
-mod Checking
+pub mod Following
+pub mod Applying
+pub mod Flushing
+pub mod Raising
+pub mod Checking
