@@ -1,2 +1,3 @@
 pub mod Infos
 pub mod Works
+pub mod Rows

@@ -2,7 +2,12 @@
 #![tactic(auto)]
 
 mod info;
+mod laws;
 mod works;
 
 pub use info::{SegInfo, info_at};
+pub use laws::longest_runs_are_longest;
 pub use works::{Due, first_due};
+
+#[cfg(test)]
+mod tests;

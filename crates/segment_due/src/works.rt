@@ -63,15 +63,15 @@ fn due_in<G: Drop>(slots: &[Slot<G>], settings: &Settings) -> Option<Due>
     None
 }
 
-/// The first work that is due, segments in rising order of their handles, and on one segment in this
-/// order: a flush from `mem_rows` versions in memory on; a compaction from as many tiny files side
+/// The first work that is due, segments in rising order of their handles, and on one segment in
+/// this order: a flush from `mem_rows` versions in memory on; a compaction from as many tiny files side
 /// by side on as the greater of `tiny_files` and 2; a delta merge from `delta_rows` versions in the
 /// delta on; a split above `split_rows` versions; a merge with the next segment where both have at
 /// most `join_rows` versions together. None where none is due.
 ///
-/// Versions are counted as [`SegInfo`] tells them. Where a total is told as 2^64 less one, the answer
-/// is that of the exact one, since no size is that large. It looks at each segment once, and takes no
-/// memory.
+/// Versions are counted as [`SegInfo`] tells them. Where a total is told as 2^64 less one, the
+/// answer is that of the exact one, since no size is that large. It looks at each segment once, and
+/// takes no memory.
 pub fn first_due<G: Drop>(list: &SegmentList<G>, settings: &Settings) -> Option<Due>
     ensures { result ≡ due_of settings.now (map info_of list.now) }
 {
