@@ -1,0 +1,4 @@
+mod Following
+mod Applying
+mod Committing
+mod SafePoint

@@ -1,0 +1,4 @@
+pub mod Names
+pub mod Learner
+pub mod Follows
+pub mod Errors

@@ -1,0 +1,12 @@
+//! A replica of one table on a disk: what it has in memory, and the store that it commits to.
+#![tactic(auto)]
+
+mod fault;
+mod laws;
+mod replica;
+mod retired;
+
+pub use fault::SafeError;
+pub use laws::replicas_follow;
+pub use replica::Replica;
+pub use retired::Retired;
