@@ -1,5 +1,5 @@
 -- What a checkpoint keeps, where all files are named.
-use Rattle.std.proofs.Common.{◌≡◌, ◌∙◌, ℕ, ◌≤◌, Bool, true, List, [], ◌∷◌, ◌++◌, length, map, replicate, refl, sym, subst, arith}
+use Rattle.std.proofs.Common.{◌≡◌, ◌∙◌, ℕ, ◌<◌, ◌≤◌, Bool, true, List, [], ◌∷◌, ◌++◌, length, map, replicate, refl, sym, subst, arith}
 use Rattle.good_replica.specs.Changed.{of_parts}
 use Rattle.prefix_laws.specs.Tagged.{content, files_at}
 use Rattle.prefix_laws.specs.Views.{AreBy}
@@ -10,41 +10,52 @@ use Rattle.segment_list.specs.Slots.{Slotted, tagged, tags_of}
 use Rattle.segment_snapshot.specs.Rights.{stable_of}
 use Rattle.replica_state.specs.Core.{Core, IsCore, full, upto}
 use Rattle.replica_state.proofs.Sets.{upto_all}
-use Rattle.good_state.specs.Changes.{AllNamed, with_checkpoint}
+use Rattle.replica_state.specs.Changes.{AllNamed, checkpointed, with_flushes}
+use Rattle.replica_state.proofs.Flushes.{no_fewer_slots}
+use Rattle.segment_flush.specs.Flushing.{after_slots, has_more}
+use Rattle.committed_log.specs.Lawful.{IsLawful}
+use Rattle.good_state.proofs.Flushing.{flush_follows, flush_good}
 use Rattle.good_state.specs.Follows.{StateFollows}
 use Rattle.good_state.specs.Good.{IsGoodState, told, segments_at, committed_set}
 use Rattle.good_state.proofs.Applying.{named_by}
-use Rattle.good_state.proofs.Following.{core_itself}
 
-module _ {G : Type 0} (s : Core G) (is : IsCore s) where
-  pub checked_set : committed_set (with_checkpoint s) ≡ full s
+module _ {G : Type 0} (s : Core G) (is : IsCore s) (next high generation : ℕ) where
+  abbrev now : Core G
+  now = checkpointed next high generation s
+
+  pub checked_set : committed_set now ≡ full s
   checked_set = upto_all s is.sets.applied (length s.listed) (omega arith)
 
-  pub checked_follows : StateFollows (with_checkpoint s) s
-  checked_follows = let same = core_itself s in record {
-    log = same.log;
-    settings = same.settings;
-    mark = same.mark;
-    opened = same.opened;
-    listed = same.listed;
-    count = same.count;
-    committed = is.sets.committed;
-    high = same.high;
-    safe_point = same.safe_point;
-    next = same.next;
-    generation = same.generation;
-    kept_from = same.kept_from;
-    slots = same.slots;
-  }
+  pub checked_follows : after_slots has_more s.numbers.next s.slots < next → s.numbers.high ≤ high → s.numbers.generation ≤ generation → StateFollows now s
+  checked_follows above no_lower no_younger =
+      let flushed = flush_follows s is has_more high no_lower in
+      let more = no_fewer_slots has_more s.numbers.next s.slots in
+      record {
+        log = flushed.log;
+        settings = flushed.settings;
+        mark = flushed.mark;
+        opened = flushed.opened;
+        listed = flushed.listed;
+        count = flushed.count;
+        committed = is.sets.committed;
+        high = no_lower;
+        safe_point = flushed.safe_point;
+        next = omega (arith, above, more);
+        generation = no_younger;
+        kept_from = flushed.kept_from;
+        slots = flushed.slots;
+      }
 
   module _ (bytes : G → List ℕ) where
-    pub checked_good : s.highest ≤ s.numbers.high → IsGoodState bytes s → IsGoodState bytes (with_checkpoint s)
-    checked_good reached good = record {
-      readable = good.readable;
-      memory = good.memory;
-      counts = later_from s.log (upto s) s.numbers.high s.numbers.safe_point s.committed (length s.listed) (length s.listed) (told bytes s) is.sets.committed good.counts;
-      below = λ p h. let less = is.sets.highest.below p (subst (λ (A : ℕ → Bool). A p ≡ true) checked_set h) in omega (arith, less, reached);
-    }
+    pub checked_good : IsLawful s.log → s.highest ≤ high → s.numbers.high ≤ high → high ≤ length s.log.entries → IsGoodState bytes s → IsGoodState bytes now
+    checked_good lawful reached no_lower within good =
+        let flushed = flush_good bytes s is lawful has_more high reached no_lower within good in
+        record {
+          readable = flushed.readable;
+          memory = flushed.memory;
+          counts = later_from s.log (upto s) high s.numbers.safe_point s.committed (length s.listed) (length s.listed) (told bytes (with_flushes has_more high s)) is.sets.committed flushed.counts;
+          below = λ p h. let less = is.sets.highest.below p (subst (λ (A : ℕ → Bool). A p ≡ true) checked_set h) in omega (arith, less, reached);
+        }
 
 module _ {G : Type 0} (bytes : G → List ℕ) where
   -- where all is named, the same is there at each count

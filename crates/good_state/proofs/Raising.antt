@@ -3,7 +3,7 @@ use Rattle.std.proofs.Common.{ℕ, ◌≤◌, length}
 use Rattle.good_replica.proofs.Replicas.{safe_up_each}
 use Rattle.prefix_laws.proofs.Replica.{safe_up}
 use Rattle.replica_state.specs.Core.{Core, full, upto}
-use Rattle.good_state.specs.Changes.{with_safe_point}
+use Rattle.replica_state.specs.Changes.{with_safe_point}
 use Rattle.good_state.specs.Follows.{StateFollows}
 use Rattle.good_state.specs.Good.{IsGoodState, told, segments_at}
 use Rattle.good_state.proofs.Following.{core_itself}

@@ -1,3 +1,2 @@
 pub mod Good
 pub mod Follows
-pub mod Changes

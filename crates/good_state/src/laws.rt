@@ -1,10 +1,11 @@
 // The laws.
-ghost use Rattle.std.specs.Prelude.{◌≡◌, ◌≤◌, ℕ, List, Some, length, slice_get};
+ghost use Rattle.std.specs.Prelude.{◌≡◌, ◌<◌, ◌≤◌, ℕ, Bool, List, length};
 ghost use Rattle.committed_log.specs.Lawful.{IsLawful};
 ghost use Rattle.replica_state.specs.Applying.{HasApplied};
 ghost use Rattle.replica_state.specs.Core.{Core, IsCore, full};
 ghost use Rattle.segment_list.specs.Slots.{Slotted};
-ghost use Rattle.good_state.specs.Changes.{AllNamed, with_checkpoint, with_flush, with_safe_point};
+ghost use Rattle.replica_state.specs.Changes.{AllNamed, checkpointed, with_flushes, with_safe_point};
+ghost use Rattle.segment_flush.specs.Flushing.{after_slots, has_more};
 ghost use Rattle.good_state.specs.Follows.{StateFollows};
 ghost use Rattle.good_state.specs.Good.{IsGoodState, committed_set, segments_at};
 
@@ -28,27 +29,28 @@ pub fn safe_points_keep_good<G>()
     ensures good { (bytes : G → List ℕ) (s : Core G) (ts : ℕ) → s.numbers.safe_point ≤ ts → IsGoodState bytes s → IsGoodState bytes (with_safe_point ts s) }
 {}
 
-/// A flush of a slot, where High becomes a number that no applied entry's is above, nor the old High,
-/// nor that is past the log.
+/// Slots that are flushed, where High becomes a number that no applied entry's is above, nor the old
+/// High, nor that is past the log.
 pub fn flushes_keep_good<G>()
-    ensures follows { (s : Core G) (place first next high : ℕ) (slot : Slotted G)
-        → IsCore s
-        → slice_get s.slots place ≡ Some slot
-        → s.numbers.next ≤ next → s.numbers.high ≤ high
-        → StateFollows (with_flush place first next high slot s) s }
-    ensures good { (bytes : G → List ℕ) (s : Core G) (place first next high : ℕ) (slot : Slotted G)
+    ensures follows { (s : Core G) (p : Slotted G → Bool) (high : ℕ) → IsCore s → s.numbers.high ≤ high → StateFollows (with_flushes p high s) s }
+    ensures good { (bytes : G → List ℕ) (s : Core G) (p : Slotted G → Bool) (high : ℕ)
         → IsCore s → IsLawful s.log
-        → slice_get s.slots place ≡ Some slot
         → s.highest ≤ high → s.numbers.high ≤ high → high ≤ length s.log.entries
         → IsGoodState bytes s
-        → IsGoodState bytes (with_flush place first next high slot s) }
+        → IsGoodState bytes (with_flushes p high s) }
 {}
 
-/// A checkpoint where all files of the segments are named, and High is past all that is applied: what
-/// is committed is all that is applied, and what is named is the same at each count.
+/// A checkpoint, where High is past all that is applied: all that is applied is committed, and what is
+/// named is the same at each count.
 pub fn checkpoints_keep_good<G>()
-    ensures follows { (s : Core G) → IsCore s → StateFollows (with_checkpoint s) s }
-    ensures good { (bytes : G → List ℕ) (s : Core G) → IsCore s → s.highest ≤ s.numbers.high → IsGoodState bytes s → IsGoodState bytes (with_checkpoint s) }
-    ensures committed { (s : Core G) → IsCore s → committed_set (with_checkpoint s) ≡ full s }
+    ensures follows { (s : Core G) (next high generation : ℕ) → IsCore s
+        → after_slots has_more s.numbers.next s.slots < next → s.numbers.high ≤ high → s.numbers.generation ≤ generation
+        → StateFollows (checkpointed next high generation s) s }
+    ensures good { (bytes : G → List ℕ) (s : Core G) (next high generation : ℕ)
+        → IsCore s → IsLawful s.log
+        → s.highest ≤ high → s.numbers.high ≤ high → high ≤ length s.log.entries
+        → IsGoodState bytes s
+        → IsGoodState bytes (checkpointed next high generation s) }
+    ensures committed { (s : Core G) (next high generation : ℕ) → IsCore s → committed_set (checkpointed next high generation s) ≡ full s }
     ensures named { (bytes : G → List ℕ) (s : Core G) → AllNamed s.slots → (j k : ℕ) → segments_at bytes j s ≡ segments_at bytes k s }
 {}

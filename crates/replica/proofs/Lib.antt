@@ -1,4 +1,10 @@
-mod Following
-mod Applying
-mod Committing
-mod SafePoint
+pub mod Following
+pub mod Applying
+pub mod Committing
+pub mod SafePoint
+pub mod Steps
+pub mod Staged
+pub mod Reading
+pub mod Named
+pub mod Flush
+pub mod Checkpoint

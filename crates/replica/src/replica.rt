@@ -1,7 +1,7 @@
 // A replica of one table.
 ghost use Rattle.std.specs.Prelude.{◌≡◌, [], OnOk, OnErr, IfOk, IfErr, IsErrOf, IsNone, IfSome};
 ghost use Rattle.flash_io.specs.Faults.{Rose};
-ghost use Rattle.good_state.specs.Changes.{with_safe_point};
+ghost use Rattle.replica_state.specs.Changes.{with_safe_point};
 ghost use Rattle.manifest.specs.Stores.{has_of};
 ghost use Rattle.raft_apply.specs.Entries.{IsParsed};
 ghost use Rattle.region_table.specs.Applying.{IsCause};
@@ -28,9 +28,9 @@ use std::marker::Model;
 /// went out of use and still stand on the disk.
 #[derive(Drop)]
 pub struct Replica<D: Disk> {
-    store: Store<D>,
-    state: State<<D::Reader as Reader>::Grip>,
-    retired: Vec<Retired>,
+    pub(crate) store: Store<D>,
+    pub(crate) state: State<<D::Reader as Reader>::Grip>,
+    pub(crate) retired: Vec<Retired>,
 }
 
 impl<D: Disk> Model for Replica<D> {

@@ -2,3 +2,4 @@ pub mod Core
 pub mod Applying
 pub mod Reads
 pub mod Opening
+pub mod Changes

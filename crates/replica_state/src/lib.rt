@@ -3,6 +3,7 @@
 #![tactic(auto)]
 
 mod apply;
+mod changes;
 mod laws;
 mod numbers;
 mod opening;

@@ -1,5 +1,6 @@
 // What is in memory, shown.
-ghost use Rattle.std.specs.Prelude.{◌≡◌, ◌≤◌, None, length, map, IfSome};
+ghost use Rattle.std.specs.Prelude.{◌≡◌, ◌≢◌, ◌≤◌, None, length, map, IfSome};
+ghost use Rattle.std.specs.List.{AllPairs};
 ghost use Rattle.committed_log.specs.Applied.{applied};
 ghost use Rattle.committed_log.specs.Lawful.{IsLawful};
 ghost use Rattle.committed_log.specs.Regions.{index_of};
@@ -18,15 +19,17 @@ use flash_types::{AskRegion, RegionId, Settings, Ts};
 use segment_list::SegmentList;
 
 impl<G: Drop> State<G> {
-    /// That what is in memory is in order, its log lawful, and that its segments cover all handles. It
-    /// does nothing when it runs.
+    /// That what is in memory is in order, its log lawful, that its segments cover all handles, and
+    /// that their numbers differ. It does nothing when it runs.
     pub fn told(&self)
         ensures order { IsCore self.now }
         ensures lawful { IsLawful self.now.log }
         ensures cover { CoversFrom least_handle (map range_alone self.now.slots) }
+        ensures differ { AllPairs (λ s t. s.id ≢ t.id) self.now.slots }
     {
         self.logs.told_lawful();
         self.segments.covers();
+        self.segments.numbers_differ();
     }
 
     /// The log.
@@ -156,12 +159,5 @@ impl<G: Drop> State<G> {
         ensures left { AreApplied self.now.log (full self.now) below → result ≡ None }
     {
         self.table.next_ready(&self.logs, part, parts, below)
-    }
-
-    /// Sets the safe point.
-    pub fn set_safe_point(&mut self, ts: Ts)
-        ensures { self.new ≡ record self.old { numbers = record self.old.numbers { safe_point = ts } } }
-    {
-        self.numbers.safe_point = ts;
     }
 }

@@ -157,7 +157,13 @@ module _ {G : Type 0} where
         let one : key_of (get_or new k d) ≡ key_of (get_or old k d) = sym (get_or-map key_of new k d) ∙ ap (λ (ks : List (ℕ × HandleRange)). get_or ks k (key_of d)) same ∙ get_or-map key_of old k d in
         let within : k < length old = omega (arith, lt, sym (length-map new key_of) ∙ ap length same ∙ length-map old key_of) in
         ap low_of (ap (λ (q : ℕ × HandleRange). q.0) one) ∙ are.found k d within ∙ ap (λ (q : ℕ × HandleRange). Some q.1.low) (sym one);
+    differ = λ i j d less lt together.
+        let within : j < length old = omega (arith, lt, sym (length-map new key_of) ∙ ap length same ∙ length-map old key_of) in
+        are.differ i j d less within (sym (id_stays i d) ∙ together ∙ id_stays j d);
   }
+    where
+      id_stays : (k : ℕ) (d : Slotted G) → (get_or new k d).id ≡ (get_or old k d).id
+      id_stays k d = ap (λ (q : ℕ × HandleRange). q.0) (sym (get_or-map key_of new k d) ∙ ap (λ (ks : List (ℕ × HandleRange)). get_or ks k (key_of d)) same ∙ get_or-map key_of old k d)
 
   -- ---- by number
 

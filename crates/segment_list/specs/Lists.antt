@@ -1,6 +1,6 @@
 -- Slots that stand side by side.
-use Rattle.std.specs.Prelude.{◌≡◌, ℕ, ℤ, true, false, Bool, ◌||◌, Option, Some, List, [], ◌∷◌, IsTrue, is_some, map}
-use Rattle.std.specs.List.{All}
+use Rattle.std.specs.Prelude.{◌≡◌, ◌≢◌, ℕ, ℤ, true, false, Bool, ◌||◌, Option, Some, List, [], ◌∷◌, IsTrue, is_some, map}
+use Rattle.std.specs.List.{All, AllPairs}
 use Rattle.column_block.specs.declared.cell.Version.{Version}
 use Rattle.flash_types.specs.Ranges.{has_any, least_handle}
 use Rattle.flash_types.specs.declared.range.HandleRange.{HandleRange}
@@ -27,7 +27,8 @@ says_of range clears adds = is_some (cleared_file range clears) || is_some (adde
 abbrev pub range_alone : {G : Type 0} → Slotted G → Segment
 range_alone s = of_parts s.range [] []
 
--- The slots cover all handles, and for the number of each it is known where the slot begins.
+-- The slots cover all handles, their numbers differ, and for the number of each it is known where the slot begins.
 pub record AreSegments {G : Type 0} (low_of : ℕ → Option ℤ) (slots : List (Slotted G)) : Type 0 where
   pub cover : CoversFrom least_handle (map range_alone slots)
   pub found : All (λ (s : Slotted G). low_of s.id ≡ Some s.range.low) slots
+  pub differ : AllPairs (λ (s t : Slotted G). s.id ≢ t.id) slots

@@ -138,6 +138,13 @@ impl<G: Drop> SegmentList<G> {
         let _slots = &self.slots;
     }
 
+    /// That no two segments have the same number. It does nothing when it runs.
+    pub fn numbers_differ(&self)
+        ensures { AllPairs (λ s t. s.id ≢ t.id) self.now }
+    {
+        let _slots = &self.slots;
+    }
+
     /// The slots, in the order of their handles.
     pub fn slots(&self) -> &[Slot<G>]
         ensures { result.now ≡ self.now }

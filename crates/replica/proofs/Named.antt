@@ -1,0 +1,167 @@
+-- What the manifest names once slots are flushed.
+use Rattle.std.proofs.Common.{◌≡◌, ◌≢◌, ◌∙◌, ℕ, zero, suc, ◌+◌, ◌<◌, ◌≤◌, Bool, true, false, true≢false, List, [], ◌∷◌, ◌++◌, length, map, take, drop, get_or, Option, Some, None, refl, sym, ap, subst, arith, nat_lt}
+use Rattle.std.specs.Prelude.{◌||◌, ◌&&◌, ◌==◌}
+use Rattle.std.specs.List.{AllByRecursion, AllPairs, filter_map, list_all, list_any}
+use Rattle.column_file.specs.declared.file.ColumnFile.{ColumnFile}
+use Rattle.column_file.specs.declared.file.ColumnFile.TheVariants.{Mem, Tiny, DeleteRange}
+use Rattle.delta_layer.specs.Files.{is_mem, is_tiny}
+use Rattle.manifest_form.specs.States.{all_done, file_below, is_formed, name_below, segment_below, with_segments}
+use Rattle.manifest_form.specs.Whole.{HasNone, IdsDiffer}
+use Rattle.manifest_form.specs.declared.state.Edit.{Edit}
+use Rattle.manifest_form.specs.declared.state.Edit.TheVariants as edit
+use Rattle.manifest_form.specs.declared.state.State.{State}
+use Rattle.manifest_form.specs.declared.state.StoredFile.{StoredFile}
+use Rattle.manifest_form.specs.declared.state.StoredSegment.{StoredSegment}
+use Rattle.manifest_form.specs.declared.state.StoredFile.TheVariants as stored
+use Rattle.manifest_laws.specs.Changes.{Renews}
+use Rattle.manifest_laws.proofs.Facts.{both_and, lt_true}
+use Rattle.manifest_laws.proofs.Steps.{all_renewed}
+use Rattle.replica_store.specs.Naming.{is_file_in, is_file_of, is_number, is_tiny_file}
+use Rattle.segment_flush.specs.Flushing.{after_one, after_slots, flushed_slots, one_flushed, puts_of, with_put}
+use Rattle.segment_flush.specs.Names.{name_of, stored_of}
+use Rattle.segment_flush.proofs.Flushed.{first_pairs, later_pairs, renewed}
+use Rattle.segment_list.specs.Flushes.{after_files, flushed_files, flushed_slot}
+use Rattle.segment_list.specs.Order.{IsSlot}
+use Rattle.segment_list.specs.Slots.{Slotted}
+use Rattle.store_image.proofs.Frames.{or_left, or_right}
+use Rattle.replica_state.proofs.Flushes.{no_fewer}
+use Rattle.replica_state.specs.Core.{IsFileBelow, IsNumberBelow, IsNumbered}
+use Rattle.replica.proofs.Reading.{all_there}
+
+-- ---- numbers differ
+
+none_of : {G : Type 0} (id : ℕ) (slots : List (Slotted G)) → ((k : ℕ) (d : Slotted G) → k < length slots → id ≢ (get_or slots k d).id) → HasNone id (map stored_of slots)
+none_of id [] others = tt
+none_of id (s ∷ ss) others = ((λ same. others 0 s (omega arith) (sym same)), none_of id ss (λ k d lt. others (suc k) d (omega (arith, lt))))
+
+pub ids_differ : {G : Type 0} (slots : List (Slotted G)) → AllPairs (λ a b. a.id ≢ b.id) slots → IdsDiffer (map stored_of slots)
+ids_differ [] pairs = tt
+ids_differ (s ∷ ss) pairs = (none_of s.id ss (λ k d lt. first_pairs (λ a b. a.id ≢ b.id) s ss pairs k d lt), ids_differ ss (later_pairs (λ a b. a.id ≢ b.id) s ss pairs))
+
+-- ---- numbers are below Next
+
+name_is_below : (next : ℕ) (o : Option ℕ) → IsNumberBelow next o → name_below next o ≡ true
+name_is_below next None below = refl
+name_is_below next (Some n) below = lt_true n next below
+
+some_more : (b : Bool) → b ≡ true → (bs : Bool) → bs ≡ true → (b && bs) ≡ true
+some_more b one bs all = both_and b bs one all
+
+names_below : (next : ℕ) (files : List ColumnFile) → AllByRecursion (IsFileBelow next) files → list_all (file_below next) (filter_map name_of files) ≡ true
+names_below next [] all = refl
+names_below next (Mem block ∷ fs) all = names_below next fs all.1
+names_below next (Tiny file block ∷ fs) all = both_and (nat_lt file next) _ (lt_true file next all.0) (names_below next fs all.1)
+names_below next (DeleteRange range ∷ fs) all = names_below next fs all.1
+
+front_below : (next n : ℕ) (files : List ColumnFile) → AllByRecursion (IsFileBelow next) files → AllByRecursion (IsFileBelow next) (take n files)
+front_below next zero files all = tt
+front_below next (suc n) [] all = tt
+front_below next (suc n) (f ∷ fs) all = (all.0, front_below next n fs all.1)
+
+stored_below : {G : Type 0} (next : ℕ) (s : Slotted G) → IsNumbered next s → segment_below next (stored_of s) ≡ true
+stored_below next s is =
+    both_and (nat_lt s.id next) _ (lt_true s.id next is.id)
+    (both_and (name_below next s.stable_number) _ (name_is_below next s.stable_number is.stable) (names_below next (take s.named s.files) (front_below next s.named s.files is.files)))
+
+pub puts_below : {G : Type 0} (next : ℕ) (p : Slotted G → Bool) (n : ℕ) (slots : List (Slotted G)) → AllByRecursion (IsNumbered next) (flushed_slots p n slots) → list_all (segment_below next) (puts_of p n slots) ≡ true
+puts_below next p n [] all = refl
+puts_below next p n (s ∷ ss) all = by (p s) all
+  where
+    by : (b : Bool) → AllByRecursion (IsNumbered next) (one_flushed b n s ∷ flushed_slots p (after_one b n s) ss) → list_all (segment_below next) (with_put b (stored_of (flushed_slot n s)) (puts_of p (after_one b n s) ss)) ≡ true
+    by true all = both_and (segment_below next (stored_of (flushed_slot n s))) _ (stored_below next (flushed_slot n s) all.0) (puts_below next p (after_files n s.files) ss all.1)
+    by false all = puts_below next p n ss all.1
+
+-- ---- the state that edits of the flushed slots make, behind others that leave the segments
+
+module _ {G : Type 0} (own : ℕ) (p : Slotted G → Bool) (n : ℕ) (slots : List (Slotted G)) (s : State) (are : s.segments ≡ map stored_of slots) (formed : is_formed own s ≡ true) (differ : AllPairs (λ a b. a.id ≢ b.id) slots)
+    (numbered : AllByRecursion (IsNumbered s.next) (flushed_slots p n slots)) where
+  puts : List Edit
+  puts = map (λ (x : StoredSegment). edit.Segment x) (puts_of p n slots)
+
+  pub state_put : (all_done s puts ≡ with_segments s (map stored_of (flushed_slots p n slots))) × (is_formed own (all_done s puts) ≡ true)
+  unfolding puts
+  state_put = all_renewed own s (map stored_of (flushed_slots p n slots)) (puts_of p n slots) formed
+      (subst IdsDiffer (sym are) (ids_differ slots differ))
+      (subst (λ (olds : List StoredSegment). Renews olds (map stored_of (flushed_slots p n slots)) (puts_of p n slots)) (sym are) (renewed p n slots))
+      (puts_below s.next p n slots numbered)
+
+-- ---- what was named is named
+
+file_still : (file n named : ℕ) (files : List ColumnFile) → AllByRecursion (λ (f : ColumnFile). is_mem f ≡ false) (take named files) → list_any (is_tiny_file file) (filter_map name_of (take named files)) ≡ true → list_any (is_tiny_file file) (filter_map name_of (flushed_files n files)) ≡ true
+file_still file n zero files no_mem is = absurd (true≢false (sym is))
+file_still file n (suc named) [] no_mem is = absurd (true≢false (sym is))
+file_still file n (suc named) (Mem block ∷ fs) no_mem is = absurd (true≢false no_mem.0)
+file_still file n (suc named) (Tiny other block ∷ fs) no_mem is = by (is_tiny_file file (stored.Tiny other)) is
+  where
+    by : (b : Bool) → (b || list_any (is_tiny_file file) (filter_map name_of (take named fs))) ≡ true → (b || list_any (is_tiny_file file) (filter_map name_of (flushed_files n fs))) ≡ true
+    by true e = refl
+    by false e = file_still file n named fs no_mem.1 e
+file_still file n (suc named) (DeleteRange range ∷ fs) no_mem is = file_still file n named fs no_mem.1 is
+
+slot_still : {G : Type 0} (file n committed last : ℕ) (s : Slotted G) → IsSlot committed last s → is_file_of file (stored_of s) ≡ true → is_file_of file (stored_of (flushed_slot n s)) ≡ true
+slot_still file n committed last s is named = by (is_number file s.stable_number) named
+  where
+    by : (b : Bool) → (b || list_any (is_tiny_file file) (filter_map name_of (take s.named s.files))) ≡ true → (b || list_any (is_tiny_file file) (filter_map name_of (take (length s.files) (flushed_files n s.files)))) ≡ true
+    by true e = refl
+    by false e = subst (λ (fs : List ColumnFile). list_any (is_tiny_file file) (filter_map name_of fs) ≡ true) (sym (all_there n s.files)) (file_still file n s.named s.files is.named e)
+
+pub slots_still : {G : Type 0} (file committed last : ℕ) (p : Slotted G → Bool) (n : ℕ) (slots : List (Slotted G)) → AllByRecursion (IsSlot committed last) slots → list_any (is_file_of file) (map stored_of slots) ≡ true → list_any (is_file_of file) (map stored_of (flushed_slots p n slots)) ≡ true
+slots_still file committed last p n [] all is = absurd (true≢false (sym is))
+slots_still file committed last p n (s ∷ ss) all is = by (p s) (is_file_of file (stored_of s)) refl is
+  where
+    tail : (b : Bool) → list_any (is_file_of file) (map stored_of ss) ≡ true → list_any (is_file_of file) (map stored_of (flushed_slots p (after_one b n s) ss)) ≡ true
+    tail b e = slots_still file committed last p (after_one b n s) ss all.1 e
+
+    by : (b t : Bool) → is_file_of file (stored_of s) ≡ t → (t || list_any (is_file_of file) (map stored_of ss)) ≡ true → list_any (is_file_of file) (map stored_of (one_flushed b n s ∷ flushed_slots p (after_one b n s) ss)) ≡ true
+    by true true here e = or_left (is_file_of file (stored_of (flushed_slot n s))) _ (slot_still file n committed last s all.0 here)
+    by false true here e = or_left (is_file_of file (stored_of s)) _ here
+    by true false here e = or_right (is_file_of file (stored_of (flushed_slot n s))) _ (tail true e)
+    by false false here e = or_right (is_file_of file (stored_of s)) _ (tail false e)
+
+-- ---- and what is named below the first new number was named
+
+pub number_same : (a b : ℕ) → (a == b) ≡ true → a ≡ b
+number_same a b h = grind (arith, h)
+
+file_back : (file n named : ℕ) (files : List ColumnFile) → file < n → AllByRecursion (λ (f : ColumnFile). is_tiny f ≡ false) (drop named files) → list_any (is_tiny_file file) (filter_map name_of (flushed_files n files)) ≡ true → list_any (is_tiny_file file) (filter_map name_of (take named files)) ≡ true
+file_back file n named [] low no_tiny is = absurd (true≢false (sym is))
+file_back file n zero (Mem block ∷ fs) low no_tiny is = by (n == file) refl is
+  where
+    by : (b : Bool) → (n == file) ≡ b → (b || list_any (is_tiny_file file) (filter_map name_of (flushed_files (n + 1) fs))) ≡ true → false ≡ true
+    by true same e = (let equal = number_same n file same in absurd (omega (arith, equal, low)))
+    by false same e = file_back file (n + 1) zero fs (omega (arith, low)) no_tiny.1 e
+file_back file n zero (Tiny other block ∷ fs) low no_tiny is = absurd (true≢false no_tiny.0)
+file_back file n zero (DeleteRange range ∷ fs) low no_tiny is = file_back file n zero fs low no_tiny.1 is
+file_back file n (suc named) (Mem block ∷ fs) low no_tiny is = by (n == file) refl is
+  where
+    by : (b : Bool) → (n == file) ≡ b → (b || list_any (is_tiny_file file) (filter_map name_of (flushed_files (n + 1) fs))) ≡ true → list_any (is_tiny_file file) (filter_map name_of (take named fs)) ≡ true
+    by true same e = (let equal = number_same n file same in absurd (omega (arith, equal, low)))
+    by false same e = file_back file (n + 1) named fs (omega (arith, low)) no_tiny e
+file_back file n (suc named) (Tiny other block ∷ fs) low no_tiny is = by (is_tiny_file file (stored.Tiny other)) is
+  where
+    by : (b : Bool) → (b || list_any (is_tiny_file file) (filter_map name_of (flushed_files n fs))) ≡ true → (b || list_any (is_tiny_file file) (filter_map name_of (take named fs))) ≡ true
+    by true e = refl
+    by false e = file_back file n named fs low no_tiny e
+file_back file n (suc named) (DeleteRange range ∷ fs) low no_tiny is = file_back file n named fs low no_tiny is
+
+slot_back : {G : Type 0} (file n committed last : ℕ) (s : Slotted G) → file < n → IsSlot committed last s → is_file_of file (stored_of (flushed_slot n s)) ≡ true → is_file_of file (stored_of s) ≡ true
+slot_back file n committed last s low is named = by (is_number file s.stable_number) named
+  where
+    by : (b : Bool) → (b || list_any (is_tiny_file file) (filter_map name_of (take (length s.files) (flushed_files n s.files)))) ≡ true → (b || list_any (is_tiny_file file) (filter_map name_of (take s.named s.files))) ≡ true
+    by true e = refl
+    by false e = file_back file n s.named s.files low is.behind (subst (λ (fs : List ColumnFile). list_any (is_tiny_file file) (filter_map name_of fs) ≡ true) (all_there n s.files) e)
+
+pub slots_back : {G : Type 0} (file committed last : ℕ) (p : Slotted G → Bool) (n : ℕ) (slots : List (Slotted G)) → file < n → AllByRecursion (IsSlot committed last) slots → list_any (is_file_of file) (map stored_of (flushed_slots p n slots)) ≡ true → list_any (is_file_of file) (map stored_of slots) ≡ true
+slots_back file committed last p n [] low all is = absurd (true≢false (sym is))
+slots_back file committed last p n (s ∷ ss) low all is = by (p s) is
+  where
+    more : (t u : Bool) (k : ℕ) → (u ≡ true → t ≡ true) → (list_any (is_file_of file) (map stored_of (flushed_slots p k ss)) ≡ true → list_any (is_file_of file) (map stored_of ss) ≡ true) → (u || list_any (is_file_of file) (map stored_of (flushed_slots p k ss))) ≡ true → (t || list_any (is_file_of file) (map stored_of ss)) ≡ true
+    more t true k here rest e = or_left t _ (here refl)
+    more t false k here rest e = or_right t _ (rest e)
+
+    by : (b : Bool) → list_any (is_file_of file) (map stored_of (one_flushed b n s ∷ flushed_slots p (after_one b n s) ss)) ≡ true → list_any (is_file_of file) (map stored_of (s ∷ ss)) ≡ true
+    by true e =
+        let up = no_fewer n s.files in
+        more (is_file_of file (stored_of s)) (is_file_of file (stored_of (flushed_slot n s))) (after_files n s.files) (slot_back file n committed last s low all.0)
+        (slots_back file committed last p (after_files n s.files) ss (omega (arith, low, up)) all.1) e
+    by false e = more (is_file_of file (stored_of s)) (is_file_of file (stored_of s)) n (λ is. is) (slots_back file committed last p n ss low all.1) e

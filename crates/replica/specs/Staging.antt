@@ -1,0 +1,27 @@
+-- Files that are staged for a commit to name.
+use Rattle.std.specs.Prelude.{◌≡◌, ◌⊎◌, ℕ, ◌<◌, List, Ok}
+use Rattle.std.specs.List.{AllByRecursion}
+use Rattle.flash_io.specs.Image.{Image, Holds}
+use Rattle.column_block.specs.declared.column.Column.{Column}
+use Rattle.column_file.specs.Tiny.{tiny_at}
+use Rattle.column_file.specs.declared.file.ColumnFile.{ColumnFile}
+use Rattle.column_file.specs.declared.file.ColumnFile.TheVariants.{Mem, Tiny, DeleteRange}
+use Rattle.manifest.specs.declared.store.Manifest.{Manifest}
+use Rattle.store_image.specs.Sound.{SameNamed}
+
+-- Below a number an image has the files of one of the others.
+abbrev pub IsBeneath : ℕ → (Image → Type 0) → Image → Type 0
+IsBeneath first others c = (d : Image) × others d × ((file : ℕ) → file < first → c file ≡ d file)
+
+-- An image has the tiny file, if its number is one from `first` on, and it is read there.
+abbrev pub IsWritten : List Column → ℕ → Image → ColumnFile → Type 0
+IsWritten columns first c (Mem block) = Unit {0}
+IsWritten columns first c (Tiny file block) = (file < first) ⊎ ((bytes : List ℕ) × Holds c file bytes × (tiny_at columns bytes ≡ Ok block))
+IsWritten columns first c (DeleteRange range) = Unit {0}
+
+abbrev pub AreWritten : List Column → ℕ → Image → List ColumnFile → Type 0
+AreWritten columns first c files = AllByRecursion (IsWritten columns first c) files
+
+-- An image has the files that a store names, with the root and the manifest's, as one of the others has them.
+abbrev pub IsNamedIn : Manifest → (Image → Type 0) → Image → Type 0
+IsNamedIn m others c = (d : Image) × others d × SameNamed m.file m.state d c
