@@ -71,19 +71,19 @@ module _ {G : Type 0} (bytes : G → List ℕ) (p : Slotted G → Bool) (log : L
     some_good : (left : List TaggedSegment) (n : ℕ) (slots : List (Slotted G)) → AllByRecursion (IsSlot committed last) slots → IsGoodOf (left ++ map tell slots) → IsGoodOf (left ++ map tell (flushed_slots p n slots))
     unfolding IsGoodOf
     some_good left n [] all good = good
-    some_good left n (s ∷ ss) all good = by (p s)
+    some_good left n (s ∷ ss) all good = by (p s) (λ before k. some_good before k ss all.1)
       where
-        by : (b : Bool) → IsGoodOf (left ++ map tell (one_flushed b n s ∷ flushed_slots p (after_one b n s) ss))
-        by true =
+        by : (b : Bool) → ((before : List TaggedSegment) (k : ℕ) → IsGoodOf (before ++ map tell ss) → IsGoodOf (before ++ map tell (flushed_slots p k ss))) → IsGoodOf (left ++ map tell (one_flushed b n s ∷ flushed_slots p (after_one b n s) ss))
+        by true rest =
             subst IsGoodOf (append_assoc left (tell (flushed_slot n s) ∷ []) (map tell (flushed_slots p (after_files n s.files) ss)))
-            (some_good (left ++ tell (flushed_slot n s) ∷ []) (after_files n s.files) ss all.1
+            (rest (left ++ tell (flushed_slot n s) ∷ []) (after_files n s.files)
             (subst IsGoodOf (sym (append_assoc left (tell (flushed_slot n s) ∷ []) (map tell ss)))
             (changed_once log A mark safe last left (tell s) (tell (flushed_slot n s)) (map tell ss) refl
             (flushed_once log A mark safe last committed ordered s.range (stable_of bytes s.stable) (tagged (tags_of s) s.files) (tagged (tags_of (flushed_slot n s)) (flushed_slot n s).files) (flush_of committed last n s all.0 (tagged_then n s all.0)))
             good)))
-        by false =
+        by false rest =
             subst IsGoodOf (append_assoc left (tell s ∷ []) (map tell (flushed_slots p n ss)))
-            (some_good (left ++ tell s ∷ []) n ss all.1 (subst IsGoodOf (sym (append_assoc left (tell s ∷ []) (map tell ss))) good))
+            (rest (left ++ tell s ∷ []) n (subst IsGoodOf (sym (append_assoc left (tell s ∷ []) (map tell ss))) good))
 
   module _ (lawful : IsLawful log) (sets : ℕ → ℕ → Bool) (high : ℕ) (steps : AreSteps sets high last) where
     AreGoodOf : List TaggedSegment → Type 0
@@ -92,27 +92,27 @@ module _ {G : Type 0} (bytes : G → List ℕ) (p : Slotted G → Bool) (log : L
     some_counts : (left : List TaggedSegment) (n : ℕ) (slots : List (Slotted G)) → AllByRecursion (IsSlot committed last) slots → AreGoodOf (left ++ map tell slots) → AreGoodOf (left ++ map tell (flushed_slots p n slots))
     unfolding AreGoodOf
     some_counts left n [] all good = good
-    some_counts left n (s ∷ ss) all good = by (p s)
+    some_counts left n (s ∷ ss) all good = by (p s) (λ before k. some_counts before k ss all.1)
       where
-        by : (b : Bool) → AreGoodOf (left ++ map tell (one_flushed b n s ∷ flushed_slots p (after_one b n s) ss))
-        by true =
+        by : (b : Bool) → ((before : List TaggedSegment) (k : ℕ) → AreGoodOf (before ++ map tell ss) → AreGoodOf (before ++ map tell (flushed_slots p k ss))) → AreGoodOf (left ++ map tell (one_flushed b n s ∷ flushed_slots p (after_one b n s) ss))
+        by true rest =
             subst AreGoodOf (append_assoc left (tell (flushed_slot n s) ∷ []) (map tell (flushed_slots p (after_files n s.files) ss)))
-            (some_counts (left ++ tell (flushed_slot n s) ∷ []) (after_files n s.files) ss all.1
+            (rest (left ++ tell (flushed_slot n s) ∷ []) (after_files n s.files)
             (subst AreGoodOf (sym (append_assoc left (tell (flushed_slot n s) ∷ []) (map tell ss)))
             (changed log sets high safe committed last left (tell s) (tell (flushed_slot n s)) (map tell ss) refl
             (flushed_good log lawful sets high safe committed last steps ordered s.range (stable_of bytes s.stable) (tagged (tags_of s) s.files) (tagged (tags_of (flushed_slot n s)) (flushed_slot n s).files) (flush_of committed last n s all.0 (tagged_then n s all.0)))
             good)))
-        by false =
+        by false rest =
             subst AreGoodOf (append_assoc left (tell s ∷ []) (map tell (flushed_slots p n ss)))
-            (some_counts (left ++ tell s ∷ []) n ss all.1 (subst AreGoodOf (sym (append_assoc left (tell s ∷ []) (map tell ss))) good))
+            (rest (left ++ tell s ∷ []) n (subst AreGoodOf (sym (append_assoc left (tell s ∷ []) (map tell ss))) good))
 
   some_readable : (n : ℕ) (slots : List (Slotted G)) → AllByRecursion (IsReadable bytes) slots → AllByRecursion (IsReadable bytes) (flushed_slots p n slots)
   some_readable n [] all = tt
-  some_readable n (s ∷ ss) all = by (p s)
+  some_readable n (s ∷ ss) all = by (p s) (λ k. some_readable k ss all.1)
     where
-      by : (b : Bool) → AllByRecursion (IsReadable bytes) (one_flushed b n s ∷ flushed_slots p (after_one b n s) ss)
-      by true = (all.0, some_readable (after_files n s.files) ss all.1)
-      by false = (all.0, some_readable n ss all.1)
+      by : (b : Bool) → ((k : ℕ) → AllByRecursion (IsReadable bytes) (flushed_slots p k ss)) → AllByRecursion (IsReadable bytes) (one_flushed b n s ∷ flushed_slots p (after_one b n s) ss)
+      by true rest = (all.0, rest (after_files n s.files))
+      by false rest = (all.0, rest n)
 
 module _ {G : Type 0} (bytes : G → List ℕ) (s : Core G) (is : IsCore s) (lawful : IsLawful s.log) (p : Slotted G → Bool) (high : ℕ) (reached : s.highest ≤ high) (no_lower : s.numbers.high ≤ high) (within : high ≤ length s.log.entries) where
   abbrev last : ℕ
@@ -159,13 +159,13 @@ module _ {G : Type 0} where
 
   slots_keep : (p : Slotted G → Bool) (m committed last n id : ℕ) (slots : List (Slotted G)) → AllByRecursion (IsSlot committed last) slots → SlotFollows m (slot_of id (flushed_slots p n slots)) (slot_of id slots)
   slots_keep p m committed last n id [] all = tt
-  slots_keep p m committed last n id (s ∷ ss) all = by (p s) (s.id == id)
+  slots_keep p m committed last n id (s ∷ ss) all = by (p s) (s.id == id) (λ k. slots_keep p m committed last k id ss all.1)
     where
-      by : (b c : Bool) → SlotFollows m (cond c (Some (one_flushed b n s)) (slot_of id (flushed_slots p (after_one b n s) ss))) (cond c (Some s) (slot_of id ss))
-      by true true = flush_keeps m n s all.0.tagged
-      by false true = slot_itself m (Some s)
-      by true false = slots_keep p m committed last (after_files n s.files) id ss all.1
-      by false false = slots_keep p m committed last n id ss all.1
+      by : (b c : Bool) → ((k : ℕ) → SlotFollows m (slot_of id (flushed_slots p k ss)) (slot_of id ss)) → SlotFollows m (cond c (Some (one_flushed b n s)) (slot_of id (flushed_slots p (after_one b n s) ss))) (cond c (Some s) (slot_of id ss))
+      by true true rest = flush_keeps m n s all.0.tagged
+      by false true rest = slot_itself m (Some s)
+      by true false rest = rest (after_files n s.files)
+      by false false rest = rest n
 
   slots_follow : (p : Slotted G → Bool) (m committed last n id : ℕ) (slots : List (Slotted G)) → AllByRecursion (IsSlot committed last) slots → SlotFollows m (slot_of id (flushed_slots p n slots)) (slot_of id slots)
   slots_follow p m committed last n id slots all = slots_keep p m committed last n id slots all

@@ -65,11 +65,11 @@ stored_below next s is =
 
 pub puts_below : {G : Type 0} (next : ℕ) (p : Slotted G → Bool) (n : ℕ) (slots : List (Slotted G)) → AllByRecursion (IsNumbered next) (flushed_slots p n slots) → list_all (segment_below next) (puts_of p n slots) ≡ true
 puts_below next p n [] all = refl
-puts_below next p n (s ∷ ss) all = by (p s) all
+puts_below next p n (s ∷ ss) all = by (p s) all (λ k below. puts_below next p k ss below)
   where
-    by : (b : Bool) → AllByRecursion (IsNumbered next) (one_flushed b n s ∷ flushed_slots p (after_one b n s) ss) → list_all (segment_below next) (with_put b (stored_of (flushed_slot n s)) (puts_of p (after_one b n s) ss)) ≡ true
-    by true all = both_and (segment_below next (stored_of (flushed_slot n s))) _ (stored_below next (flushed_slot n s) all.0) (puts_below next p (after_files n s.files) ss all.1)
-    by false all = puts_below next p n ss all.1
+    by : (b : Bool) → AllByRecursion (IsNumbered next) (one_flushed b n s ∷ flushed_slots p (after_one b n s) ss) → ((k : ℕ) → AllByRecursion (IsNumbered next) (flushed_slots p k ss) → list_all (segment_below next) (puts_of p k ss) ≡ true) → list_all (segment_below next) (with_put b (stored_of (flushed_slot n s)) (puts_of p (after_one b n s) ss)) ≡ true
+    by true all rest = both_and (segment_below next (stored_of (flushed_slot n s))) _ (stored_below next (flushed_slot n s) all.0) (rest (after_files n s.files) all.1)
+    by false all rest = rest n all.1
 
 -- ---- the state that edits of the flushed slots make, behind others that leave the segments
 
@@ -91,11 +91,11 @@ file_still : (file n named : ℕ) (files : List ColumnFile) → AllByRecursion (
 file_still file n zero files no_mem is = absurd (true≢false (sym is))
 file_still file n (suc named) [] no_mem is = absurd (true≢false (sym is))
 file_still file n (suc named) (Mem block ∷ fs) no_mem is = absurd (true≢false no_mem.0)
-file_still file n (suc named) (Tiny other block ∷ fs) no_mem is = by (is_tiny_file file (stored.Tiny other)) is
+file_still file n (suc named) (Tiny other block ∷ fs) no_mem is = by (is_tiny_file file (stored.Tiny other)) is (λ e. file_still file n named fs no_mem.1 e)
   where
-    by : (b : Bool) → (b || list_any (is_tiny_file file) (filter_map name_of (take named fs))) ≡ true → (b || list_any (is_tiny_file file) (filter_map name_of (flushed_files n fs))) ≡ true
-    by true e = refl
-    by false e = file_still file n named fs no_mem.1 e
+    by : (b : Bool) → (b || list_any (is_tiny_file file) (filter_map name_of (take named fs))) ≡ true → (list_any (is_tiny_file file) (filter_map name_of (take named fs)) ≡ true → list_any (is_tiny_file file) (filter_map name_of (flushed_files n fs)) ≡ true) → (b || list_any (is_tiny_file file) (filter_map name_of (flushed_files n fs))) ≡ true
+    by true e rest = refl
+    by false e rest = rest e
 file_still file n (suc named) (DeleteRange range ∷ fs) no_mem is = file_still file n named fs no_mem.1 is
 
 slot_still : {G : Type 0} (file n committed last : ℕ) (s : Slotted G) → IsSlot committed last s → is_file_of file (stored_of s) ≡ true → is_file_of file (stored_of (flushed_slot n s)) ≡ true
@@ -107,16 +107,15 @@ slot_still file n committed last s is named = by (is_number file s.stable_number
 
 pub slots_still : {G : Type 0} (file committed last : ℕ) (p : Slotted G → Bool) (n : ℕ) (slots : List (Slotted G)) → AllByRecursion (IsSlot committed last) slots → list_any (is_file_of file) (map stored_of slots) ≡ true → list_any (is_file_of file) (map stored_of (flushed_slots p n slots)) ≡ true
 slots_still file committed last p n [] all is = absurd (true≢false (sym is))
-slots_still file committed last p n (s ∷ ss) all is = by (p s) (is_file_of file (stored_of s)) refl is
+slots_still file committed last p n (s ∷ ss) all is = by (p s) (is_file_of file (stored_of s)) refl is (λ k e. slots_still file committed last p k ss all.1 e)
   where
-    tail : (b : Bool) → list_any (is_file_of file) (map stored_of ss) ≡ true → list_any (is_file_of file) (map stored_of (flushed_slots p (after_one b n s) ss)) ≡ true
-    tail b e = slots_still file committed last p (after_one b n s) ss all.1 e
-
-    by : (b t : Bool) → is_file_of file (stored_of s) ≡ t → (t || list_any (is_file_of file) (map stored_of ss)) ≡ true → list_any (is_file_of file) (map stored_of (one_flushed b n s ∷ flushed_slots p (after_one b n s) ss)) ≡ true
-    by true true here e = or_left (is_file_of file (stored_of (flushed_slot n s))) _ (slot_still file n committed last s all.0 here)
-    by false true here e = or_left (is_file_of file (stored_of s)) _ here
-    by true false here e = or_right (is_file_of file (stored_of (flushed_slot n s))) _ (tail true e)
-    by false false here e = or_right (is_file_of file (stored_of s)) _ (tail false e)
+    by : (b t : Bool) → is_file_of file (stored_of s) ≡ t → (t || list_any (is_file_of file) (map stored_of ss)) ≡ true
+        → ((k : ℕ) → list_any (is_file_of file) (map stored_of ss) ≡ true → list_any (is_file_of file) (map stored_of (flushed_slots p k ss)) ≡ true)
+        → list_any (is_file_of file) (map stored_of (one_flushed b n s ∷ flushed_slots p (after_one b n s) ss)) ≡ true
+    by true true here e rest = or_left (is_file_of file (stored_of (flushed_slot n s))) _ (slot_still file n committed last s all.0 here)
+    by false true here e rest = or_left (is_file_of file (stored_of s)) _ here
+    by true false here e rest = or_right (is_file_of file (stored_of (flushed_slot n s))) _ (rest (after_files n s.files) e)
+    by false false here e rest = or_right (is_file_of file (stored_of s)) _ (rest n e)
 
 -- ---- and what is named below the first new number was named
 
@@ -125,23 +124,23 @@ number_same a b h = grind (arith, h)
 
 file_back : (file n named : ℕ) (files : List ColumnFile) → file < n → AllByRecursion (λ (f : ColumnFile). is_tiny f ≡ false) (drop named files) → list_any (is_tiny_file file) (filter_map name_of (flushed_files n files)) ≡ true → list_any (is_tiny_file file) (filter_map name_of (take named files)) ≡ true
 file_back file n named [] low no_tiny is = absurd (true≢false (sym is))
-file_back file n zero (Mem block ∷ fs) low no_tiny is = by (n == file) refl is
+file_back file n zero (Mem block ∷ fs) low no_tiny is = by (n == file) refl is (λ e. file_back file (n + 1) zero fs (omega (arith, low)) no_tiny.1 e)
   where
-    by : (b : Bool) → (n == file) ≡ b → (b || list_any (is_tiny_file file) (filter_map name_of (flushed_files (n + 1) fs))) ≡ true → false ≡ true
-    by true same e = (let equal = number_same n file same in absurd (omega (arith, equal, low)))
-    by false same e = file_back file (n + 1) zero fs (omega (arith, low)) no_tiny.1 e
+    by : (b : Bool) → (n == file) ≡ b → (b || list_any (is_tiny_file file) (filter_map name_of (flushed_files (n + 1) fs))) ≡ true → (list_any (is_tiny_file file) (filter_map name_of (flushed_files (n + 1) fs)) ≡ true → false ≡ true) → false ≡ true
+    by true same e rest = (let equal = number_same n file same in absurd (omega (arith, equal, low)))
+    by false same e rest = rest e
 file_back file n zero (Tiny other block ∷ fs) low no_tiny is = absurd (true≢false no_tiny.0)
 file_back file n zero (DeleteRange range ∷ fs) low no_tiny is = file_back file n zero fs low no_tiny.1 is
-file_back file n (suc named) (Mem block ∷ fs) low no_tiny is = by (n == file) refl is
+file_back file n (suc named) (Mem block ∷ fs) low no_tiny is = by (n == file) refl is (λ e. file_back file (n + 1) named fs (omega (arith, low)) no_tiny e)
   where
-    by : (b : Bool) → (n == file) ≡ b → (b || list_any (is_tiny_file file) (filter_map name_of (flushed_files (n + 1) fs))) ≡ true → list_any (is_tiny_file file) (filter_map name_of (take named fs)) ≡ true
-    by true same e = (let equal = number_same n file same in absurd (omega (arith, equal, low)))
-    by false same e = file_back file (n + 1) named fs (omega (arith, low)) no_tiny e
-file_back file n (suc named) (Tiny other block ∷ fs) low no_tiny is = by (is_tiny_file file (stored.Tiny other)) is
+    by : (b : Bool) → (n == file) ≡ b → (b || list_any (is_tiny_file file) (filter_map name_of (flushed_files (n + 1) fs))) ≡ true → (list_any (is_tiny_file file) (filter_map name_of (flushed_files (n + 1) fs)) ≡ true → list_any (is_tiny_file file) (filter_map name_of (take named fs)) ≡ true) → list_any (is_tiny_file file) (filter_map name_of (take named fs)) ≡ true
+    by true same e rest = (let equal = number_same n file same in absurd (omega (arith, equal, low)))
+    by false same e rest = rest e
+file_back file n (suc named) (Tiny other block ∷ fs) low no_tiny is = by (is_tiny_file file (stored.Tiny other)) is (λ e. file_back file n named fs low no_tiny e)
   where
-    by : (b : Bool) → (b || list_any (is_tiny_file file) (filter_map name_of (flushed_files n fs))) ≡ true → (b || list_any (is_tiny_file file) (filter_map name_of (take named fs))) ≡ true
-    by true e = refl
-    by false e = file_back file n named fs low no_tiny e
+    by : (b : Bool) → (b || list_any (is_tiny_file file) (filter_map name_of (flushed_files n fs))) ≡ true → (list_any (is_tiny_file file) (filter_map name_of (flushed_files n fs)) ≡ true → list_any (is_tiny_file file) (filter_map name_of (take named fs)) ≡ true) → (b || list_any (is_tiny_file file) (filter_map name_of (take named fs))) ≡ true
+    by true e rest = refl
+    by false e rest = rest e
 file_back file n (suc named) (DeleteRange range ∷ fs) low no_tiny is = file_back file n named fs low no_tiny is
 
 slot_back : {G : Type 0} (file n committed last : ℕ) (s : Slotted G) → file < n → IsSlot committed last s → is_file_of file (stored_of (flushed_slot n s)) ≡ true → is_file_of file (stored_of s) ≡ true
@@ -153,15 +152,16 @@ slot_back file n committed last s low is named = by (is_number file s.stable_num
 
 pub slots_back : {G : Type 0} (file committed last : ℕ) (p : Slotted G → Bool) (n : ℕ) (slots : List (Slotted G)) → file < n → AllByRecursion (IsSlot committed last) slots → list_any (is_file_of file) (map stored_of (flushed_slots p n slots)) ≡ true → list_any (is_file_of file) (map stored_of slots) ≡ true
 slots_back file committed last p n [] low all is = absurd (true≢false (sym is))
-slots_back file committed last p n (s ∷ ss) low all is = by (p s) is
+slots_back file committed last p n (s ∷ ss) low all is = by (p s) is (λ k less e. slots_back file committed last p k ss less all.1 e)
   where
-    more : (t u : Bool) (k : ℕ) → (u ≡ true → t ≡ true) → (list_any (is_file_of file) (map stored_of (flushed_slots p k ss)) ≡ true → list_any (is_file_of file) (map stored_of ss) ≡ true) → (u || list_any (is_file_of file) (map stored_of (flushed_slots p k ss))) ≡ true → (t || list_any (is_file_of file) (map stored_of ss)) ≡ true
-    more t true k here rest e = or_left t _ (here refl)
-    more t false k here rest e = or_right t _ (rest e)
+    either : (t u : Bool) (k : ℕ) → (u ≡ true → t ≡ true) → (list_any (is_file_of file) (map stored_of (flushed_slots p k ss)) ≡ true → list_any (is_file_of file) (map stored_of ss) ≡ true) → (u || list_any (is_file_of file) (map stored_of (flushed_slots p k ss))) ≡ true → (t || list_any (is_file_of file) (map stored_of ss)) ≡ true
+    either t true k here rest e = or_left t _ (here refl)
+    either t false k here rest e = or_right t _ (rest e)
 
-    by : (b : Bool) → list_any (is_file_of file) (map stored_of (one_flushed b n s ∷ flushed_slots p (after_one b n s) ss)) ≡ true → list_any (is_file_of file) (map stored_of (s ∷ ss)) ≡ true
-    by true e =
+    by : (b : Bool) → list_any (is_file_of file) (map stored_of (one_flushed b n s ∷ flushed_slots p (after_one b n s) ss)) ≡ true
+        → ((k : ℕ) → file < k → list_any (is_file_of file) (map stored_of (flushed_slots p k ss)) ≡ true → list_any (is_file_of file) (map stored_of ss) ≡ true)
+        → list_any (is_file_of file) (map stored_of (s ∷ ss)) ≡ true
+    by true e rest =
         let up = no_fewer n s.files in
-        more (is_file_of file (stored_of s)) (is_file_of file (stored_of (flushed_slot n s))) (after_files n s.files) (slot_back file n committed last s low all.0)
-        (slots_back file committed last p (after_files n s.files) ss (omega (arith, low, up)) all.1) e
-    by false e = more (is_file_of file (stored_of s)) (is_file_of file (stored_of s)) n (λ is. is) (slots_back file committed last p n ss low all.1) e
+        either (is_file_of file (stored_of s)) (is_file_of file (stored_of (flushed_slot n s))) (after_files n s.files) (slot_back file n committed last s low all.0) (rest (after_files n s.files) (omega (arith, low, up))) e
+    by false e rest = either (is_file_of file (stored_of s)) (is_file_of file (stored_of s)) n (λ is. is) (rest n low) e

@@ -108,14 +108,15 @@ module _ {G : Type 0} (bytes : G → List ℕ) (own : ℕ) (c : Image) (columns 
       → AllByRecursion (λ (s : Slotted G). AreWritten columns first c s.files) (flushed_slots p n slots)
       → AreSegmentsRead own c columns (map stored_of (flushed_slots p n slots)) (map (content k) (map (told_by (stable_of bytes)) (flushed_slots p n slots)))
   slots_read p n [] le all was written = tt
-  slots_read p n (s ∷ ss) le all was written = by (p s) written
+  slots_read p n (s ∷ ss) le all was written = by (p s) written (λ k up done. slots_read p k ss up all.1 was.1 done)
     where
       by : (b : Bool) → AllByRecursion (λ (t : Slotted G). AreWritten columns first c t.files) (one_flushed b n s ∷ flushed_slots p (after_one b n s) ss)
+          → ((j : ℕ) → first ≤ j → AllByRecursion (λ (t : Slotted G). AreWritten columns first c t.files) (flushed_slots p j ss) → AreSegmentsRead own c columns (map stored_of (flushed_slots p j ss)) (map (content k) (map (told_by (stable_of bytes)) (flushed_slots p j ss))))
           → AreSegmentsRead own c columns (map stored_of (one_flushed b n s ∷ flushed_slots p (after_one b n s) ss)) (map (content k) (map (told_by (stable_of bytes)) (one_flushed b n s ∷ flushed_slots p (after_one b n s) ss)))
-      by true written =
+      by true written rest =
           let more = no_fewer n s.files in
-          (slot_read n s le all.0 was.0 written.0, slots_read p (after_files n s.files) ss (omega (arith, le, more)) all.1 was.1 written.1)
-      by false written = (was.0, slots_read p n ss le all.1 was.1 written.1)
+          (slot_read n s le all.0 was.0 written.0, rest (after_files n s.files) (omega (arith, le, more)) written.1)
+      by false written rest = (was.0, rest n le written.1)
 
 -- ---- what is below the first new number needs no writing
 

@@ -1,5 +1,5 @@
 -- What is in memory stays in order where slots are flushed.
-use Rattle.std.proofs.Common.{◌≡◌, ◌∙◌, ℕ, ◌+◌, ◌<◌, ◌≤◌, Bool, true, false, cond, List, [], ◌∷◌, length, Option, Some, None, refl, sym, ap, subst, arith, nat_lt}
+use Rattle.std.proofs.Common.{◌≡◌, ◌∙◌, ℕ, suc, ◌+◌, ◌<◌, ◌≤◌, Bool, true, false, cond, List, [], ◌∷◌, length, Option, Some, None, refl, sym, ap, subst, arith, nat_lt}
 use Rattle.std.specs.Prelude.{◌||◌}
 use Rattle.std.specs.List.{AllByRecursion, list_any}
 use Rattle.std.proofs.lemmas.Bool.Decides.{nat_tests}
@@ -91,40 +91,40 @@ module _ {G : Type 0} where
   module _ (p : Slotted G → Bool) where
     pub no_fewer_slots : (n : ℕ) (slots : List (Slotted G)) → n ≤ after_slots p n slots
     no_fewer_slots n [] = omega arith
-    no_fewer_slots n (s ∷ ss) = by (p s)
+    no_fewer_slots n (s ∷ ss) = by (p s) (λ k. no_fewer_slots k ss)
       where
-        by : (b : Bool) → n ≤ after_slots p (after_one b n s) ss
-        by true = (let one = no_fewer n s.files in let rest = no_fewer_slots (after_files n s.files) ss in omega (arith, one, rest))
-        by false = no_fewer_slots n ss
+        by : (b : Bool) → ((k : ℕ) → k ≤ after_slots p k ss) → n ≤ after_slots p (after_one b n s) ss
+        by true rest = (let one = no_fewer n s.files in let more = rest (after_files n s.files) in omega (arith, one, more))
+        by false rest = rest n
 
     slots_numbered : (low n high : ℕ) → low ≤ n → (slots : List (Slotted G)) → after_slots p n slots ≤ high → AllByRecursion (IsNumbered low) slots → AllByRecursion (IsNumbered high) (flushed_slots p n slots)
     slots_numbered low n high le [] within all = tt
-    slots_numbered low n high le (s ∷ ss) within all = by (p s) within
+    slots_numbered low n high le (s ∷ ss) within all = by (p s) within (λ k up fits. slots_numbered low k high up ss fits all.1)
       where
-        by : (b : Bool) → after_slots p (after_one b n s) ss ≤ high → AllByRecursion (IsNumbered high) (one_flushed b n s ∷ flushed_slots p (after_one b n s) ss)
-        by true within =
+        by : (b : Bool) → after_slots p (after_one b n s) ss ≤ high → ((k : ℕ) → low ≤ k → after_slots p k ss ≤ high → AllByRecursion (IsNumbered high) (flushed_slots p k ss)) → AllByRecursion (IsNumbered high) (one_flushed b n s ∷ flushed_slots p (after_one b n s) ss)
+        by true within rest =
             let one = no_fewer n s.files in
-            let rest = no_fewer_slots (after_files n s.files) ss in
-            (flushed_numbered low n high le s (omega (arith, rest, within)) all.0, slots_numbered low (after_files n s.files) high (omega (arith, le, one)) ss within all.1)
-        by false within =
-            let rest = no_fewer_slots n ss in
-            (numbered_up low high (omega (arith, le, rest, within)) s all.0, slots_numbered low n high le ss within all.1)
+            let more = no_fewer_slots (after_files n s.files) ss in
+            (flushed_numbered low n high le s (omega (arith, more, within)) all.0, rest (after_files n s.files) (omega (arith, le, one)) within)
+        by false within rest =
+            let more = no_fewer_slots n ss in
+            (numbered_up low high (omega (arith, le, more, within)) s all.0, rest n le within)
 
     slots_suit : (columns : List Column) (n : ℕ) (slots : List (Slotted G)) → AllByRecursion (SlotSuits columns) slots → AllByRecursion (SlotSuits columns) (flushed_slots p n slots)
     slots_suit columns n [] all = tt
-    slots_suit columns n (s ∷ ss) all = by (p s)
+    slots_suit columns n (s ∷ ss) all = by (p s) (λ k. slots_suit columns k ss all.1)
       where
-        by : (b : Bool) → AllByRecursion (SlotSuits columns) (one_flushed b n s ∷ flushed_slots p (after_one b n s) ss)
-        by true = (flushed_suits columns n s all.0, slots_suit columns (after_files n s.files) ss all.1)
-        by false = (all.0, slots_suit columns n ss all.1)
+        by : (b : Bool) → ((k : ℕ) → AllByRecursion (SlotSuits columns) (flushed_slots p k ss)) → AllByRecursion (SlotSuits columns) (one_flushed b n s ∷ flushed_slots p (after_one b n s) ss)
+        by true rest = (flushed_suits columns n s all.0, rest (after_files n s.files))
+        by false rest = (all.0, rest n)
 
     slots_order : (committed last n : ℕ) (slots : List (Slotted G)) → AllByRecursion (IsSlot committed last) slots → AllByRecursion (IsSlot committed last) (flushed_slots p n slots)
     slots_order committed last n [] all = tt
-    slots_order committed last n (s ∷ ss) all = by (p s)
+    slots_order committed last n (s ∷ ss) all = by (p s) (λ k. slots_order committed last k ss all.1)
       where
-        by : (b : Bool) → AllByRecursion (IsSlot committed last) (one_flushed b n s ∷ flushed_slots p (after_one b n s) ss)
-        by true = (in_order committed last committed last n s all.0, slots_order committed last (after_files n s.files) ss all.1)
-        by false = (all.0, slots_order committed last n ss all.1)
+        by : (b : Bool) → ((k : ℕ) → AllByRecursion (IsSlot committed last) (flushed_slots p k ss)) → AllByRecursion (IsSlot committed last) (one_flushed b n s ∷ flushed_slots p (after_one b n s) ss)
+        by true rest = (in_order committed last committed last n s all.0, rest (after_files n s.files))
+        by false rest = (all.0, rest n)
 
     pub core_flushed : (s : Core G) (high : ℕ) → IsCore s → s.numbers.high ≤ high → high ≤ length s.log.entries → IsCore (with_flushes p high s)
     core_flushed s high is no_lower within = record {
@@ -145,23 +145,23 @@ module _ {G : Type 0} where
 
   -- ---- a checkpoint
 
+  some_length : (n : ℕ) → nat_lt 0 (suc n) ≡ false → ⊥
+  some_length n e = grind (arith, nat_tests)
+
   no_tags : (s : Slotted G) → has_more s ≡ false → s.tags ≡ []
   no_tags s none = by s.tags none
     where
       by : (ts : List ℕ) → nat_lt 0 (length ts) ≡ false → ts ≡ []
       by [] e = refl
-      by (t ∷ ts) e = absurd (less (length ts) e)
-        where
-          less : (n : ℕ) → nat_lt 0 (n + 1) ≡ false → ⊥
-          less n e = grind (arith, nat_tests)
+      by (t ∷ ts) e = absurd (some_length (length ts) e)
 
   pub all_named : (n : ℕ) (slots : List (Slotted G)) → AllNamed (flushed_slots has_more n slots)
   all_named n [] = tt
-  all_named n (s ∷ ss) = by (has_more s) refl
+  all_named n (s ∷ ss) = by (has_more s) refl (λ k. all_named k ss)
     where
-      by : (b : Bool) → has_more s ≡ b → AllNamed (one_flushed b n s ∷ flushed_slots has_more (after_one b n s) ss)
-      by true e = (refl, all_named (after_files n s.files) ss)
-      by false e = (no_tags s e, all_named n ss)
+      by : (b : Bool) → has_more s ≡ b → ((k : ℕ) → AllNamed (flushed_slots has_more k ss)) → AllNamed (one_flushed b n s ∷ flushed_slots has_more (after_one b n s) ss)
+      by true e rest = (refl, rest (after_files n s.files))
+      by false e rest = (no_tags s e, rest n)
 
   named_order : (committed last other : ℕ) (slots : List (Slotted G)) → AllNamed slots → AllByRecursion (IsSlot committed last) slots → AllByRecursion (IsSlot other other) slots
   named_order committed last other [] named all = tt

@@ -14,11 +14,11 @@ use Rattle.segment_flush.specs.Names.{stored_of}
 module _ {G : Type 0} where
   pub renewed : (p : Slotted G → Bool) (n : ℕ) (slots : List (Slotted G)) → Renews (map stored_of slots) (map stored_of (flushed_slots p n slots)) (puts_of p n slots)
   renewed p n [] = refl
-  renewed p n (s ∷ ss) = by (p s)
+  renewed p n (s ∷ ss) = by (p s) (λ k. renewed p k ss)
     where
-      by : (b : Bool) → Renews (stored_of s ∷ map stored_of ss) (stored_of (one_flushed b n s) ∷ map stored_of (flushed_slots p (after_one b n s) ss)) (with_put b (stored_of (flushed_slot n s)) (puts_of p (after_one b n s) ss))
-      by true = (refl, refl, inr (puts_of p (after_files n s.files) ss, refl, renewed p (after_files n s.files) ss))
-      by false = (refl, refl, inl (refl, renewed p n ss))
+      by : (b : Bool) → ((k : ℕ) → Renews (map stored_of ss) (map stored_of (flushed_slots p k ss)) (puts_of p k ss)) → Renews (stored_of s ∷ map stored_of ss) (stored_of (one_flushed b n s) ∷ map stored_of (flushed_slots p (after_one b n s) ss)) (with_put b (stored_of (flushed_slot n s)) (puts_of p (after_one b n s) ss))
+      by true rest = (refl, refl, inr (puts_of p (after_files n s.files) ss, refl, rest (after_files n s.files)))
+      by false rest = (refl, refl, inl (refl, rest n))
 
 -- ---- pairs
 
@@ -52,10 +52,10 @@ differ a b out = by (a == b) refl
 -- ---- one slot alone
 
 module _ {G : Type 0} where
-  pub record AreLeft (id n : ℕ) (slots : List (Slotted G)) : Type 0 where
-    pub slots : flushed_slots (is_slot id) n slots ≡ slots
-    pub next : after_slots (is_slot id) n slots ≡ n
-    pub puts : puts_of (is_slot id) n slots ≡ []
+  pub record AreLeft (id n : ℕ) (olds : List (Slotted G)) : Type 0 where
+    pub slots : flushed_slots (is_slot id) n olds ≡ olds
+    pub next : after_slots (is_slot id) n olds ≡ n
+    pub puts : puts_of (is_slot id) n olds ≡ []
 
   left : (id n : ℕ) (slots : List (Slotted G)) → ((k : ℕ) (d : Slotted G) → k < length slots → (get_or slots k d).id ≢ id) → AreLeft id n slots
   left id n [] others = record { slots = refl; next = refl; puts = refl }
@@ -70,9 +70,6 @@ module _ {G : Type 0} where
 
   itself : (s : Slotted G) → is_slot s.id s ≡ true
   itself s = grind (arith, nat_tests)
-
-  apart : Slotted G → Slotted G → Type 0
-  apart a b = a.id ≢ b.id
 
   pub one_flush : (n place : ℕ) (s : Slotted G) (slots : List (Slotted G)) → AllPairs (λ a b. a.id ≢ b.id) slots → slice_get slots place ≡ Some s → OneIsFlushed n place s slots
   one_flush n place s [] pairs here = absurd (cc here)

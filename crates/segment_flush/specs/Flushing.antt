@@ -1,10 +1,20 @@
 -- The flush of some of a replica's slots.
-use Rattle.std.specs.Prelude.{ℕ, Bool, List, [], ◌∷◌, ◌==◌, length, nat_lt, Option, Some, None, if◌then◌else◌}
+use Rattle.std.specs.Prelude.{ℕ, Bool, List, [], ◌∷◌, ◌==◌, length, map, nat_lt, Option, Some, None, if◌then◌else◌}
+use Rattle.manifest_form.specs.declared.state.Edit.{Edit}
+use Rattle.manifest_form.specs.declared.state.Edit.TheVariants as edit
 use Rattle.manifest_form.specs.declared.state.StoredSegment.{StoredSegment}
 use Rattle.segment_list.specs.Flushes.{after_files, flushed_files, flushed_slot}
 use Rattle.segment_list.specs.Slots.{Slotted}
 use Rattle.segment_list.specs.declared.flush.Flush.{Flush}
 use Rattle.segment_flush.specs.Names.{stored_of}
+
+-- the edits that put segments
+abbrev pub segment_edits : List StoredSegment → List Edit
+segment_edits segments = map (λ (s : StoredSegment). edit.Segment s) segments
+
+-- a segment in front of others, if it is put
+abbrev pub with_put : Bool → StoredSegment → List StoredSegment → List StoredSegment
+with_put b s ss = if b then s ∷ ss else ss
 
 module _ {G : Type 0} where
   -- the manifest doesn't name all files of its delta
@@ -33,9 +43,6 @@ module _ {G : Type 0} where
   after_slots p n (s ∷ ss) = after_slots p (after_one (p s) n s) ss
 
   -- what the manifest has to name for them
-  abbrev pub with_put : Bool → StoredSegment → List StoredSegment → List StoredSegment
-  with_put b s ss = if b then s ∷ ss else ss
-
   abbrev pub puts_of : (Slotted G → Bool) → ℕ → List (Slotted G) → List StoredSegment
   puts_of p n [] = []
   puts_of p n (s ∷ ss) = with_put (p s) (stored_of (flushed_slot n s)) (puts_of p (after_one (p s) n s) ss)
