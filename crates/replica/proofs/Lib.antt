@@ -8,3 +8,4 @@ pub mod Reading
 pub mod Named
 pub mod Flush
 pub mod Checkpoint
+pub mod Staging

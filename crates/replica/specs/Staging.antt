@@ -1,5 +1,5 @@
 -- Files that are staged for a commit to name.
-use Rattle.std.specs.Prelude.{◌≡◌, ◌⊎◌, ℕ, ◌<◌, List, Ok}
+use Rattle.std.specs.Prelude.{◌≡◌, ◌⊎◌, ℕ, ◌<◌, ◌≤◌, ◌^◌, List, Option, Ok}
 use Rattle.std.specs.List.{AllByRecursion}
 use Rattle.flash_io.specs.Image.{Image, Holds}
 use Rattle.column_block.specs.declared.column.Column.{Column}
@@ -7,6 +7,9 @@ use Rattle.column_file.specs.Tiny.{tiny_at}
 use Rattle.column_file.specs.declared.file.ColumnFile.{ColumnFile}
 use Rattle.column_file.specs.declared.file.ColumnFile.TheVariants.{Mem, Tiny, DeleteRange}
 use Rattle.manifest.specs.declared.store.Manifest.{Manifest}
+use Rattle.segment_flush.specs.Flushing.{after_one, has_more, plan_of}
+use Rattle.segment_list.specs.Slots.{Slotted}
+use Rattle.segment_list.specs.declared.flush.Flush.{Flush}
 use Rattle.store_image.specs.Sound.{SameNamed}
 
 -- Below a number an image has the files of one of the others.
@@ -21,6 +24,13 @@ IsWritten columns first c (DeleteRange range) = Unit {0}
 
 abbrev pub AreWritten : List Column → ℕ → Image → List ColumnFile → Type 0
 AreWritten columns first c files = AllByRecursion (IsWritten columns first c) files
+
+-- a slot's plan, if it is flushed, is by a number that isn't below this one, and its numbers suffice
+pub record IsPlannedFrom {G : Type 0} (next : ℕ) (s : Slotted G) (plan : Option Flush) : Type 0 where
+  pub from : ℕ
+  pub is : plan ≡ plan_of (has_more s) from s
+  pub fresh : next ≤ from
+  pub room : after_one (has_more s) from s < 2 ^ 32
 
 -- An image has the files that a store names, with the root and the manifest's, as one of the others has them.
 abbrev pub IsNamedIn : Manifest → (Image → Type 0) → Image → Type 0

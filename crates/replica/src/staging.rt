@@ -1,5 +1,5 @@
 // Files that are written before a commit names them.
-ghost use Rattle.std.specs.Prelude.{◌≡◌, ◌<◌, ◌≤◌, ◌^◌, ◌+◌, ◌++◌, elim, None, Some, OnOk, IfOk, IfSome, IsErrOf};
+ghost use Rattle.std.specs.Prelude.{◌≡◌, ◌<◌, ◌≤◌, ◌^◌, ℕ, OnOk, IfOk, IsErrOf};
 ghost use Rattle.std.specs.List.{AllByRecursion};
 ghost use Rattle.flash_io.specs.Crash.{Elsewhere};
 ghost use Rattle.flash_io.specs.Image.{Image};
@@ -9,11 +9,11 @@ ghost use Rattle.column_file.specs.Tiny.{tiny};
 ghost use Rattle.delta_layer.specs.Files.{FileHas, FilesHave, file_of, files_of};
 ghost use Rattle.pack_codec.specs.Spelling.{PackFits};
 ghost use Rattle.replica_state.specs.Core.{IsFileBelow, IsNumbered, SlotSuits};
-ghost use Rattle.segment_flush.specs.Flushing.{after_slots, flushed_slots, has_more, plans_of};
+ghost use Rattle.segment_flush.specs.Flushing.{after_slots, flushed_slots, has_more, one_flushed, plan_of, plans_of};
 ghost use Rattle.segment_list.specs.Slots.{Slotted};
 ghost use Rattle.replica_store.specs.Store.{Counted, HasFailed, LeavesAlways, NamesNothing};
 ghost use Rattle.segment_list.specs.Flushes.{after_file, after_files, flushed_file, flushed_files};
-ghost use Rattle.replica.specs.Staging.{AreWritten, IsBeneath, IsWritten};
+ghost use Rattle.replica.specs.Staging.{AreWritten, IsBeneath, IsPlannedFrom, IsWritten};
 
 use column_block::{Block, Schema};
 use column_file::{ColumnFile, encode_tiny, tiny_files_are_read_again};
@@ -59,7 +59,8 @@ fn stage_file<D: Disk>(
     match file {
         ColumnFile::Mem { block } => {
             let bytes = encoded(block, schema, alloc)?;
-            store.stage(number, bytes.as_slice())
+            store.stage(number, bytes.as_slice())?;
+            Ok(())
         }
         ColumnFile::Tiny { .. } => Ok(()),
         ColumnFile::DeleteRange { .. } => Ok(()),
@@ -119,16 +120,19 @@ fn stage_planned<D: Disk, G: Drop>(
     requires schema { IsSchema schema.now }
     requires suits { SlotSuits schema.now slot.now }
     requires below { IsNumbered store.old.manifest.state.next slot.now }
-    requires planned { IfSome plan.now (λ flush. (store.old.manifest.state.next ≤ flush.from) × (after_files flush.from slot.now.files < 2 ^ 32)) }
+    requires planned { IsPlannedFrom store.old.manifest.state.next slot.now plan.now }
     ensures named { NamesNothing D.Disk store.old store.new }
-    ensures written { OnOk result (IfSome plan.now (λ flush. (c : Image) → D.may_leave store.new.disk c → AreWritten schema.now store.old.manifest.state.next c (flushed_files flush.from slot.now.files))) }
-    ensures any_moment { LeavesAlways D.Disk store.old store.new (λ c. elim plan.now [ None ↦ D.may_leave store.old.disk c | Some flush ↦ IsBeneath flush.from (D.may_leave store.old.disk) c ]) }
+    ensures written { OnOk result ((n : ℕ) → plan.now ≡ plan_of (has_more slot.now) n slot.now → (c : Image) → D.may_leave store.new.disk c → AreWritten schema.now store.old.manifest.state.next c (one_flushed (has_more slot.now) n slot.now).files) }
+    ensures any_moment { (n : ℕ) → plan.now ≡ plan_of (has_more slot.now) n slot.now → LeavesAlways D.Disk store.old store.new (IsBeneath n (D.may_leave store.old.disk)) }
     ensures counted { Counted D.Disk store.old store.new }
     ensures device { IsErrOf result CommitError.Device → HasFailed D.Disk store.old store.new }
 {
     match plan {
         None => Ok(()),
-        Some(flush) => stage_layer(store, schema, flush.from, slot.layer(), alloc),
+        Some(flush) => {
+            stage_layer(store, schema, flush.from, slot.layer(), alloc)?;
+            Ok(())
+        }
     }
 }
 

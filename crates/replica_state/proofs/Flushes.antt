@@ -1,7 +1,7 @@
 -- What is in memory stays in order where slots are flushed.
-use Rattle.std.proofs.Common.{◌≡◌, ◌∙◌, ℕ, suc, ◌+◌, ◌<◌, ◌≤◌, Bool, true, false, cond, List, [], ◌∷◌, length, Option, Some, None, refl, sym, ap, subst, arith, nat_lt}
-use Rattle.std.specs.Prelude.{◌||◌}
-use Rattle.std.specs.List.{AllByRecursion, list_any}
+use Rattle.std.proofs.Common.{◌≡◌, ◌≢◌, ◌∙◌, ℕ, suc, ◌+◌, ◌<◌, ◌≤◌, Bool, true, false, cond, List, [], ◌∷◌, length, set, Option, Some, None, refl, sym, ap, subst, arith, nat_lt}
+use Rattle.std.specs.Prelude.{◌||◌, slice_get}
+use Rattle.std.specs.List.{AllByRecursion, AllPairs, list_any}
 use Rattle.std.proofs.lemmas.Bool.Decides.{nat_tests}
 use Rattle.column_block.specs.Suiting.{Suits}
 use Rattle.column_block.specs.declared.column.Column.{Column}
@@ -9,8 +9,11 @@ use Rattle.column_file.specs.declared.file.ColumnFile.{ColumnFile}
 use Rattle.column_file.specs.declared.file.ColumnFile.TheVariants.{Mem, Tiny, DeleteRange}
 use Rattle.delta_layer.specs.Files.{FilesHave, files_of, file_of, is_mem}
 use Rattle.good_replica.specs.Trail.{DeltaFile}
-use Rattle.segment_flush.specs.Flushing.{after_one, after_slots, flushed_slots, has_more, one_flushed}
-use Rattle.segment_list.specs.Flushes.{after_file, after_files, flushed_file, flushed_files, flushed_slot}
+use Rattle.segment_flush.specs.Flushing.{after_one, after_slots, flushed_slots, has_more, is_slot, one_flushed}
+use Rattle.segment_flush.proofs.Flushed.{one_flush}
+use Rattle.segment_flush.proofs.Planned.{at_place}
+use Rattle.segment_list.specs.Flushes.{IsFlushOf, after_file, after_files, flushed_file, flushed_files, flushed_slot}
+use Rattle.segment_list.specs.declared.flush.Flush.{Flush}
 use Rattle.segment_list.specs.Order.{IsSlot}
 use Rattle.segment_list.specs.Slots.{Slotted}
 use Rattle.segment_list.proofs.Flushing.{in_order}
@@ -40,7 +43,7 @@ number_below : (low high : ℕ) → low ≤ high → (o : Option ℕ) → IsNumb
 number_below low high le None below = tt
 number_below low high le (Some n) below = omega (arith, le, below)
 
-files_below : (low n high : ℕ) → low ≤ n → (fs : List ColumnFile) → after_files n fs ≤ high → AllByRecursion (IsFileBelow low) fs → AllByRecursion (IsFileBelow high) (flushed_files n fs)
+pub files_below : (low n high : ℕ) → low ≤ n → (fs : List ColumnFile) → after_files n fs ≤ high → AllByRecursion (IsFileBelow low) fs → AllByRecursion (IsFileBelow high) (flushed_files n fs)
 files_below low n high le [] within all = tt
 files_below low n high le (Mem block ∷ fs) within all = let more = no_fewer (n + 1) fs in (omega (arith, within, more), files_below low (n + 1) high (omega (arith, le)) fs within all.1)
 files_below low n high le (Tiny file block ∷ fs) within all = let more = no_fewer n fs in (omega (arith, within, more, le, all.0), files_below low n high le fs within all.1)
@@ -55,6 +58,9 @@ same_say n (Tiny file block ∷ fs) = ap (λ (r : List DeltaFile). file_of (Tiny
 same_say n (DeleteRange range ∷ fs) = ap (λ (r : List DeltaFile). file_of (DeleteRange range) ∷ r) (same_say n fs)
 
 -- ---- slots
+
+some_length : (n : ℕ) → nat_lt 0 (suc n) ≡ false → ⊥
+some_length n e = grind (arith, nat_tests)
 
 all_below : (low high : ℕ) → low ≤ high → (fs : List ColumnFile) → AllByRecursion (IsFileBelow low) fs → AllByRecursion (IsFileBelow high) fs
 all_below low high le [] all = tt
@@ -97,7 +103,7 @@ module _ {G : Type 0} where
         by true rest = (let one = no_fewer n s.files in let more = rest (after_files n s.files) in omega (arith, one, more))
         by false rest = rest n
 
-    slots_numbered : (low n high : ℕ) → low ≤ n → (slots : List (Slotted G)) → after_slots p n slots ≤ high → AllByRecursion (IsNumbered low) slots → AllByRecursion (IsNumbered high) (flushed_slots p n slots)
+    pub slots_numbered : (low n high : ℕ) → low ≤ n → (slots : List (Slotted G)) → after_slots p n slots ≤ high → AllByRecursion (IsNumbered low) slots → AllByRecursion (IsNumbered high) (flushed_slots p n slots)
     slots_numbered low n high le [] within all = tt
     slots_numbered low n high le (s ∷ ss) within all = by (p s) within (λ k up fits. slots_numbered low k high up ss fits all.1)
       where
@@ -145,9 +151,6 @@ module _ {G : Type 0} where
 
   -- ---- a checkpoint
 
-  some_length : (n : ℕ) → nat_lt 0 (suc n) ≡ false → ⊥
-  some_length n e = grind (arith, nat_tests)
-
   no_tags : (s : Slotted G) → has_more s ≡ false → s.tags ≡ []
   no_tags s none = by s.tags none
     where
@@ -191,3 +194,39 @@ module _ {G : Type 0} where
         };
         settings = is.settings;
       }
+
+-- ---- what a call leaves, by its parts
+
+module _ {G : Type 0} where
+  abbrev pub with_parts : Core G → List (Slotted G) → ℕ → ℕ → Core G
+  with_parts s slots next high = record s { slots = slots; numbers = record s.numbers { next = next; high = high } }
+
+  pub put_is : (s : Core G) → AllPairs (λ a b. a.id ≢ b.id) s.slots → (place : ℕ) (flush : Flush) (high : ℕ) (slots : List (Slotted G))
+      → ((t : Slotted G) → slice_get s.slots place ≡ Some t → IsFlushOf t.files flush) → flush.from ≡ s.numbers.next
+      → ((t : Slotted G) → slice_get s.slots place ≡ Some t → slots ≡ set s.slots place (flushed_slot flush.from t))
+      → (t : Slotted G) → slice_get s.slots place ≡ Some t → with_parts s slots flush.next high ≡ with_flushes (is_slot t.id) high s
+  put_is s differ place flush high slots planned from put t here =
+      let one = one_flush s.numbers.next place t s.slots differ here in
+      let is : slots ≡ flushed_slots (is_slot t.id) s.numbers.next s.slots = put t here ∙ ap (λ (n : ℕ). set s.slots place (flushed_slot n t)) from ∙ sym one.slots in
+      let next : flush.next ≡ after_slots (is_slot t.id) s.numbers.next s.slots = (planned t here).next ∙ ap (λ (n : ℕ). after_files n t.files) from ∙ sym one.next in
+      λ i. with_parts s (is i) (next i) high
+
+  pub put_core : (s : Core G) → IsCore s → AllPairs (λ a b. a.id ≢ b.id) s.slots → (place : ℕ) (flush : Flush) (high : ℕ) (slots : List (Slotted G))
+      → place < length s.slots
+      → ((t : Slotted G) → slice_get s.slots place ≡ Some t → IsFlushOf t.files flush) → flush.from ≡ s.numbers.next
+      → s.numbers.high ≤ high → high ≤ length s.log.entries
+      → ((t : Slotted G) → slice_get s.slots place ≡ Some t → slots ≡ set s.slots place (flushed_slot flush.from t))
+      → IsCore (with_parts s slots flush.next high)
+  put_core s is differ place flush high slots lt planned from no_lower within put =
+      let it = at_place s.slots place lt in
+      subst IsCore (sym (put_is s differ place flush high slots planned from put it.0 it.1)) (core_flushed (is_slot it.0.id) s high is no_lower within)
+
+  abbrev pub with_more_parts : Core G → List (Slotted G) → (committed next high generation : ℕ) → Core G
+  with_more_parts s slots committed next high generation = record s { slots = slots; committed = committed; numbers = record s.numbers { next = next; high = high; generation = generation } }
+
+  pub checkpoint_core : (s : Core G) → IsCore s → (slots : List (Slotted G)) (committed next high generation : ℕ)
+      → slots ≡ flushed_slots has_more s.numbers.next s.slots → committed ≡ length s.listed
+      → after_slots has_more s.numbers.next s.slots < next → s.numbers.high ≤ high → high ≤ length s.log.entries → s.numbers.generation ≤ generation → generation < next
+      → IsCore (with_more_parts s slots committed next high generation)
+  checkpoint_core s is slots committed next high generation are all above no_lower within no_younger numbered =
+      subst (λ (c : Core G). IsCore c) (λ i. with_more_parts s (sym are i) (sym all i) next high generation) (core_checkpointed s next high generation is above no_lower within no_younger numbered)
