@@ -28,7 +28,7 @@ use Rattle.segment_flush.specs.Flushing.{after_one, flushed_slots, one_flushed}
 use Rattle.good_state.specs.Good.{IsGoodState, told, segments_at}
 use Rattle.good_state.specs.Follows.{KeepsSlot, SlotFollows, StateFollows, slot_of}
 use Rattle.good_state.proofs.Applying.{named_by, upper}
-use Rattle.good_state.proofs.Following.{core_itself, slot_itself}
+use Rattle.good_state.proofs.Following.{core_itself, grown_itself}
 
 -- ---- what tagged files say
 
@@ -65,11 +65,10 @@ module _ {G : Type 0} (bytes : G → List ℕ) (p : Slotted G → Bool) (log : L
   tagged_then n s is = (in_order committed last committed last n s is).tagged
 
   module _ (A : ℕ → Bool) (mark : ℕ) where
-    IsGoodOf : List TaggedSegment → Type 0
+    abbrev IsGoodOf : List TaggedSegment → Type 0
     IsGoodOf ts = AreGood log A mark safe (map (content last) ts)
 
     some_good : (left : List TaggedSegment) (n : ℕ) (slots : List (Slotted G)) → AllByRecursion (IsSlot committed last) slots → IsGoodOf (left ++ map tell slots) → IsGoodOf (left ++ map tell (flushed_slots p n slots))
-    unfolding IsGoodOf
     some_good left n [] all good = good
     some_good left n (s ∷ ss) all good = by (p s) (λ before k. some_good before k ss all.1)
       where
@@ -86,11 +85,10 @@ module _ {G : Type 0} (bytes : G → List ℕ) (p : Slotted G → Bool) (log : L
             (rest (left ++ tell s ∷ []) n (subst IsGoodOf (sym (append_assoc left (tell s ∷ []) (map tell ss))) good))
 
   module _ (lawful : IsLawful log) (sets : ℕ → ℕ → Bool) (high : ℕ) (steps : AreSteps sets high last) where
-    AreGoodOf : List TaggedSegment → Type 0
+    abbrev AreGoodOf : List TaggedSegment → Type 0
     AreGoodOf ts = ArePrefixesGood log sets high safe committed last ts
 
     some_counts : (left : List TaggedSegment) (n : ℕ) (slots : List (Slotted G)) → AllByRecursion (IsSlot committed last) slots → AreGoodOf (left ++ map tell slots) → AreGoodOf (left ++ map tell (flushed_slots p n slots))
-    unfolding AreGoodOf
     some_counts left n [] all good = good
     some_counts left n (s ∷ ss) all good = by (p s) (λ before k. some_counts before k ss all.1)
       where
@@ -157,15 +155,20 @@ module _ {G : Type 0} where
             };
           }
 
+  one_keeps : (m id : ℕ) (c : Bool) (t s : Slotted G) (news olds : List (Slotted G)) → KeepsSlot m t s → SlotFollows m (slot_of id news) (slot_of id olds) → SlotFollows m (cond c (Some t) (slot_of id news)) (cond c (Some s) (slot_of id olds))
+  one_keeps m id true t s news olds keeps rest = keeps
+  one_keeps m id false t s news olds keeps rest = rest
+
+  itself_keeps : (m : ℕ) (s : Slotted G) → KeepsSlot m s s
+  itself_keeps m s = record { epoch = omega arith; grown = λ same. grown_itself m s }
+
   slots_keep : (p : Slotted G → Bool) (m committed last n id : ℕ) (slots : List (Slotted G)) → AllByRecursion (IsSlot committed last) slots → SlotFollows m (slot_of id (flushed_slots p n slots)) (slot_of id slots)
   slots_keep p m committed last n id [] all = tt
-  slots_keep p m committed last n id (s ∷ ss) all = by (p s) (s.id == id) (λ k. slots_keep p m committed last k id ss all.1)
+  slots_keep p m committed last n id (s ∷ ss) all = by (p s) (λ k. slots_keep p m committed last k id ss all.1)
     where
-      by : (b c : Bool) → ((k : ℕ) → SlotFollows m (slot_of id (flushed_slots p k ss)) (slot_of id ss)) → SlotFollows m (cond c (Some (one_flushed b n s)) (slot_of id (flushed_slots p (after_one b n s) ss))) (cond c (Some s) (slot_of id ss))
-      by true true rest = flush_keeps m n s all.0.tagged
-      by false true rest = slot_itself m (Some s)
-      by true false rest = rest (after_files n s.files)
-      by false false rest = rest n
+      by : (b : Bool) → ((k : ℕ) → SlotFollows m (slot_of id (flushed_slots p k ss)) (slot_of id ss)) → SlotFollows m (slot_of id (one_flushed b n s ∷ flushed_slots p (after_one b n s) ss)) (slot_of id (s ∷ ss))
+      by true rest = one_keeps m id (s.id == id) (flushed_slot n s) s (flushed_slots p (after_files n s.files) ss) ss (flush_keeps m n s all.0.tagged) (rest (after_files n s.files))
+      by false rest = one_keeps m id (s.id == id) s s (flushed_slots p n ss) ss (itself_keeps m s) (rest n)
 
   slots_follow : (p : Slotted G → Bool) (m committed last n id : ℕ) (slots : List (Slotted G)) → AllByRecursion (IsSlot committed last) slots → SlotFollows m (slot_of id (flushed_slots p n slots)) (slot_of id slots)
   slots_follow p m committed last n id slots all = slots_keep p m committed last n id slots all

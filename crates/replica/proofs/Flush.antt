@@ -1,5 +1,5 @@
 -- What a flush keeps, of any slots.
-use Rattle.std.proofs.Common.{◌≡◌, ◌∙◌, inl, ℕ, ◌<◌, ◌≤◌, Bool, true, false, List, [], ◌∷◌, length, map, Some, refl, sym, ap, subst, arith}
+use Rattle.std.proofs.Common.{◌≡◌, ◌≢◌, ◌∙◌, inl, ℕ, ◌<◌, ◌≤◌, Bool, true, false, List, [], ◌∷◌, length, map, Some, refl, sym, ap, subst, arith}
 use Rattle.std.specs.Prelude.{◌||◌}
 use Rattle.std.specs.List.{AllByRecursion, AllPairs, list_any}
 use Rattle.flash_io.specs.Crash.{LeavesOnly}
@@ -13,15 +13,18 @@ use Rattle.log_laws.specs.Chains.{chain_at}
 use Rattle.manifest.specs.Runs.{OldOrNew}
 use Rattle.manifest.specs.Stores.{Becomes, IsKept, has_of, has_with}
 use Rattle.manifest.specs.declared.store.Manifest.{Manifest}
-use Rattle.manifest_form.specs.States.{is_formed, with_segments}
+use Rattle.manifest_form.specs.States.{all_done, is_formed, with_segments}
+use Rattle.manifest_form.specs.declared.state.Edit.{Edit}
+use Rattle.manifest_form.specs.declared.state.Edit.TheVariants as edit
+use Rattle.manifest_laws.proofs.Taking.{none_formed}
 use Rattle.manifest_form.specs.declared.state.State.{State}
 use Rattle.manifest_form.specs.declared.state.StoredSegment.{StoredSegment}
 use Rattle.replica_state.specs.Changes.{with_flushes}
 use Rattle.replica_state.specs.Core.{Core, IsCore}
-use Rattle.replica_state.proofs.Flushes.{no_fewer_slots}
+use Rattle.replica_state.proofs.Flushes.{core_flushed, no_fewer_slots}
 use Rattle.replica_store.specs.Naming.{is_file_in, is_file_of, is_number}
 use Rattle.replica_store.specs.Store.{Stored, IsWhole}
-use Rattle.segment_flush.specs.Flushing.{after_slots, flushed_slots}
+use Rattle.segment_flush.specs.Flushing.{after_slots, flushed_slots, puts_of, segment_edits}
 use Rattle.segment_flush.specs.Names.{stored_of}
 use Rattle.segment_list.specs.Slots.{Slotted}
 use Rattle.store_image.specs.Images.{AreRegionsRead, AreSegmentsRead, IsCountOf, columns_in}
@@ -31,7 +34,7 @@ use Rattle.replica.specs.Learner.{HasNamed, IsLearner, IsPromised, Learner, Soun
 use Rattle.replica.specs.Names.{IsRetired, Names}
 use Rattle.replica.specs.Staging.{AreWritten, IsBeneath, IsNamedIn}
 use Rattle.replica.specs.declared.retired.Retired.{Retired}
-use Rattle.replica.proofs.Named.{slots_back, slots_still}
+use Rattle.replica.proofs.Named.{slots_back, slots_still, state_put}
 use Rattle.replica.proofs.Reading.{slots_read}
 use Rattle.replica.proofs.Staged.{beneath_named, has_named, images, named_now}
 use Rattle.replica.proofs.Steps.{step_done, step_failed, with_store}
@@ -164,3 +167,18 @@ module _ {D G : Type 0} (s : Learner D G) (is : IsCore s.core) (ok : IsLearner s
     });
     retired = subst (λ (k : Manifest). AllByRecursion (IsRetired k s.core.numbers.generation) s.retired) (sym same) (retired_then s.retired ok.retired);
   }
+
+-- ---- the edits that name it
+
+module _ {G : Type 0} (core : Core G) (is : IsCore core) (differ : AllPairs (λ a b. a.id ≢ b.id) core.slots) (p : Slotted G → Bool) (high : ℕ) (no_lower : core.numbers.high ≤ high) (within : high ≤ length core.log.entries)
+    (m : Manifest) (names : Names (has_of m) core) where
+  abbrev pub flush_edits : List Edit
+  flush_edits = edit.Next (after_slots p core.numbers.next core.slots) ∷ edit.High high (chain_at core.log high) ∷ segment_edits (puts_of p core.numbers.next core.slots)
+
+  marked_formed : is_formed m.file (all_done m.state (edit.Next (after_slots p core.numbers.next core.slots) ∷ edit.High high (chain_at core.log high) ∷ [])) ≡ true
+  marked_formed = none_formed m.file m.state (edit.Next (after_slots p core.numbers.next core.slots) ∷ edit.High high (chain_at core.log high) ∷ []) tt m.formed
+      (let more = no_fewer_slots p core.numbers.next core.slots in omega (arith, names.next, more)) (tt, (tt, tt))
+
+  pub edits_give : (all_done m.state flush_edits ≡ flushed_state m (with_flushes p high core)) × (is_formed m.file (all_done m.state flush_edits) ≡ true)
+  edits_give = state_put m.file p core.numbers.next core.slots (all_done m.state (edit.Next (after_slots p core.numbers.next core.slots) ∷ edit.High high (chain_at core.log high) ∷ [])) names.segments marked_formed differ
+      (core_flushed p core high is no_lower within).slots.numbered

@@ -8,7 +8,6 @@ use Rattle.delta_layer.specs.Files.{is_mem, is_tiny}
 use Rattle.manifest_form.specs.States.{all_done, file_below, is_formed, name_below, segment_below, with_segments}
 use Rattle.manifest_form.specs.Whole.{HasNone, IdsDiffer}
 use Rattle.manifest_form.specs.declared.state.Edit.{Edit}
-use Rattle.manifest_form.specs.declared.state.Edit.TheVariants as edit
 use Rattle.manifest_form.specs.declared.state.State.{State}
 use Rattle.manifest_form.specs.declared.state.StoredFile.{StoredFile}
 use Rattle.manifest_form.specs.declared.state.StoredSegment.{StoredSegment}
@@ -17,7 +16,7 @@ use Rattle.manifest_laws.specs.Changes.{Renews}
 use Rattle.manifest_laws.proofs.Facts.{both_and, lt_true}
 use Rattle.manifest_laws.proofs.Steps.{all_renewed}
 use Rattle.replica_store.specs.Naming.{is_file_in, is_file_of, is_number, is_tiny_file}
-use Rattle.segment_flush.specs.Flushing.{after_one, after_slots, flushed_slots, one_flushed, puts_of, with_put}
+use Rattle.segment_flush.specs.Flushing.{after_one, after_slots, flushed_slots, one_flushed, puts_of, segment_edits, with_put}
 use Rattle.segment_flush.specs.Names.{name_of, stored_of}
 use Rattle.segment_flush.proofs.Flushed.{first_pairs, later_pairs, renewed}
 use Rattle.segment_list.specs.Flushes.{after_files, flushed_files, flushed_slot}
@@ -75,11 +74,10 @@ puts_below next p n (s ∷ ss) all = by (p s) all (λ k below. puts_below next p
 
 module _ {G : Type 0} (own : ℕ) (p : Slotted G → Bool) (n : ℕ) (slots : List (Slotted G)) (s : State) (are : s.segments ≡ map stored_of slots) (formed : is_formed own s ≡ true) (differ : AllPairs (λ a b. a.id ≢ b.id) slots)
     (numbered : AllByRecursion (IsNumbered s.next) (flushed_slots p n slots)) where
-  puts : List Edit
-  puts = map (λ (x : StoredSegment). edit.Segment x) (puts_of p n slots)
+  abbrev puts : List Edit
+  puts = segment_edits (puts_of p n slots)
 
   pub state_put : (all_done s puts ≡ with_segments s (map stored_of (flushed_slots p n slots))) × (is_formed own (all_done s puts) ≡ true)
-  unfolding puts
   state_put = all_renewed own s (map stored_of (flushed_slots p n slots)) (puts_of p n slots) formed
       (subst IdsDiffer (sym are) (ids_differ slots differ))
       (subst (λ (olds : List StoredSegment). Renews olds (map stored_of (flushed_slots p n slots)) (puts_of p n slots)) (sym are) (renewed p n slots))

@@ -8,11 +8,10 @@ use Rattle.replica_state.specs.Changes.{checkpointed, with_flushes, with_kept_fr
 use Rattle.log_laws.specs.Chains.{chain_at}
 use Rattle.manifest_form.specs.declared.state.Edit.{Edit}
 use Rattle.manifest_form.specs.declared.state.Edit.TheVariants as edit
-use Rattle.manifest_form.specs.declared.state.StoredSegment.{StoredSegment}
 use Rattle.region_table.specs.Table.{size_of}
 use Rattle.replica_state.specs.Core.{Core, full}
 use Rattle.replica_store.specs.Naming.{is_file_of, is_known}
-use Rattle.segment_flush.specs.Flushing.{after_slots, has_more, is_slot, puts_of}
+use Rattle.segment_flush.specs.Flushing.{after_slots, has_more, is_slot, puts_of, segment_edits}
 use Rattle.segment_flush.specs.Names.{stored_of}
 use Rattle.segment_list.specs.Slots.{Slotted, mem_rows}
 use Rattle.replica.specs.Learner.{Learner}
@@ -61,7 +60,7 @@ out_of_use generation (Some file) = record { file = file; generation = generatio
 -- its edits, where the region file has this number
 abbrev pub checkpoint_edits : {G : Type 0} → (next high region : ℕ) → Core G → List Edit
 checkpoint_edits next high region core =
-    edit.Next next ∷ edit.High high (chain_at core.log high) ∷ edit.Regions region ∷ edit.Count (size_of core.log (full core)) ∷ map (λ (s : StoredSegment). edit.Segment s) (puts_of has_more core.numbers.next core.slots)
+    edit.Next next ∷ edit.High high (chain_at core.log high) ∷ edit.Regions region ∷ edit.Count (size_of core.log (full core)) ∷ segment_edits (puts_of has_more core.numbers.next core.slots)
 
 -- All that is applied is committed, and all files are named; Next is past the region file's number, and the generation is higher by 1 where the older region file went out of use.
 pub record HasCheckpointed {D G : Type 0} (old new : Learner D G) : Type 0 where
