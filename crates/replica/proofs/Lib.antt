@@ -6,6 +6,6 @@ pub mod Steps
 pub mod Staged
 pub mod Reading
 pub mod Named
-pub mod Flush
-pub mod Checkpoint
-pub mod Staging
+pub mod Flushed
+pub mod Checkpointed
+pub mod Written

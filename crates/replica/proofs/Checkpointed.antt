@@ -34,7 +34,7 @@ use Rattle.std.proofs.lemmas.List.Elements.{Contains-append_left, Contains-appen
 use Rattle.store_image.proofs.Frames.{file_low}
 use Rattle.replica.specs.Steps.{freed, freed_of, if_freed, out_of_use, risen}
 use Rattle.replica.specs.declared.retired.Retired.{Retired}
-use Rattle.replica.proofs.Flush.{before, begun, has, names_before, own_below, segments_then}
+use Rattle.replica.proofs.Flushed.{before, begun, has, names_before, own_below, segments_then}
 use Rattle.replica.proofs.Named.{number_same, slots_back, slots_still}
 use Rattle.replica.proofs.Steps.{step_done, step_failed, with_store}
 
