@@ -1,11 +1,4 @@
-pub mod Following
-pub mod Applying
-pub mod Committing
-pub mod SafePoint
-pub mod Steps
-pub mod Staged
-pub mod Reading
-pub mod Named
-pub mod Flushed
-pub mod Checkpointed
-pub mod Written
+mod Following
+mod Applying
+mod Committing
+mod SafePoint

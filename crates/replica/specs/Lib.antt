@@ -2,5 +2,3 @@ pub mod Names
 pub mod Learner
 pub mod Follows
 pub mod Errors
-pub mod Staging
-pub mod Steps

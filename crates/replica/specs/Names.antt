@@ -4,7 +4,7 @@ use Rattle.log_laws.specs.Chains.{chain_at}
 use Rattle.manifest.specs.declared.store.Manifest.{Manifest}
 use Rattle.manifest_form.specs.declared.recover.Recovered.{Recovered}
 use Rattle.replica_state.specs.Core.{Core}
-use Rattle.replica_store.specs.Naming.{is_file_in}
+use Rattle.replica_store.specs.Naming.{is_named}
 pub use Rattle.segment_flush.specs.Names.{name_of, stored_of}
 use Rattle.store_image.specs.Images.{columns_in}
 use Rattle.replica.specs.declared.retired.Retired.{Retired}
@@ -20,8 +20,8 @@ module _ {G : Type 0} where
     pub safe_point : has.state.safe_point ≡ core.numbers.safe_point
     pub chain : has.state.chain ≡ chain_at core.log core.numbers.high
 
--- a file that went out of use, at a generation before the current one: the state names it no more
+-- a file that went out of use, at a generation before the current one
 pub record IsRetired (m : Manifest) (generation : ℕ) (it : Retired) : Type 0 where
-  pub unnamed : is_file_in it.file m.state ≡ false
+  pub unnamed : is_named m.file m.state it.file ≡ false
   pub numbered : it.file < m.state.next
   pub before : it.generation < generation

@@ -1,17 +1,12 @@
 //! A replica of one table on a disk: what it has in memory, and the store that it commits to.
 #![tactic(auto)]
 
-mod checkpoint;
-mod edits;
 mod fault;
-mod flush;
 mod laws;
-mod purge;
 mod replica;
 mod retired;
-mod staging;
 
-pub use fault::{SafeError, StepError};
+pub use fault::SafeError;
 pub use laws::replicas_follow;
 pub use replica::Replica;
 pub use retired::Retired;
