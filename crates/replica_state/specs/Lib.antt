@@ -2,3 +2,5 @@ pub mod Core
 pub mod Applying
 pub mod Reads
 pub mod Opening
+pub mod Asks
+pub mod Works
