@@ -21,10 +21,10 @@ use Rattle.delta_layer.specs.declared.view.SegmentView.{SegmentView}
 use Rattle.learner_read.specs.declared.snapshot.Snapshot.{Snapshot}
 use Rattle.segment_list.specs.Laws.{told_by}
 use Rattle.segment_list.specs.Order.{IsSlot}
-use Rattle.segment_list.specs.Slots.{Slotted, tagged, tags_of}
+use Rattle.segment_list.specs.Slots.{Slotted, tagged, tags_of, view_of}
 use Rattle.segment_snapshot.specs.Rights.{AreReadable, IsRightScan, stable_of, whole}
 use Rattle.segment_snapshot.proofs.Rightness.{right}
-use Rattle.segment_work.specs.Begun.{segments_for, view_of}
+use Rattle.segment_work.specs.Begun.{segments_for}
 use Rattle.segment_work.specs.Jobs.{segment_of, slots_from}
 use Rattle.segment_work.specs.Outcomes.{FailsAsRead, read_for, stables_in}
 use Rattle.replica_state.specs.Asks.{IsReadOf}

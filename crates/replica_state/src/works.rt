@@ -117,10 +117,7 @@ impl<G: Drop> State<G> {
 /// fails, `Device` comes only where the reader's count of faults rose, `OneHandle` of a split alone,
 /// where fewer than two handles have versions, and there nothing is built. `Memory` is want of
 /// memory.
-pub fn build<R: Reader>(
-    task: &Task<R::Grip>,
-    reader: &mut R,
-) -> Result<Built<R::Grip>, BuildError>
+pub fn build<R: Reader>(task: &Task<R::Grip>, reader: &mut R) -> Result<Built<R::Grip>, BuildError>
     ensures built { IfOk result (λ built.
         IsBuilt R.Grip.tells R.Grip.bytes task.now.state.log.schema task.now.work.pack_rows built) }
     ensures from { IfOk result (λ built.
