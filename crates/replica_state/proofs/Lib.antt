@@ -3,3 +3,4 @@ pub mod Slots
 pub mod Applies
 pub mod Cutting
 pub mod Opened
+pub mod Answering

@@ -1,9 +1,9 @@
 // What is in memory at the beginning of a case.
-ghost use Rattle.std.specs.Prelude.{◌≤◌, List, IfSome, length};
-ghost use Rattle.column_block.specs.declared.column.Column.{Column};
+ghost use Rattle.std.specs.Prelude.{◌≡◌, ◌≤◌, [], ◌∷◌, IfSome, length};
 ghost use Rattle.flash_types.specs.Settings.{AreSettings};
 ghost use Rattle.region_table.specs.Table.{Agrees};
-ghost use Rattle.replica_state.specs.Core.{AreNumbers, AreSlots};
+ghost use Rattle.replica_state.specs.Core.{AreNumbers};
+ghost use Rattle.state_cases.specs.Begins.{first_slot};
 
 use crate::bench::Bench;
 use committed_log::Logs;
@@ -38,7 +38,7 @@ fn settings() -> Settings
 fn numbers(mark: u64, entries: u64) -> Numbers
     requires { mark ≤ entries }
     ensures numbers { AreNumbers entries result }
-    ensures next { 2 ≤ result.next }
+    ensures next { result.next ≡ 2 }
 {
     let _entries = entries;
     Numbers {
@@ -52,7 +52,9 @@ fn numbers(mark: u64, entries: u64) -> Numbers
 }
 
 // One segment with all handles, and no file.
-fn one_slot(alloc: Global) -> Option<Slot<MemGrip>> {
+fn one_slot(alloc: Global) -> Option<Slot<MemGrip>>
+    ensures { IfSome result (λ slot. slot ≡ first_slot) }
+{
     let all = HandleRange {
         low: i64::MIN,
         high: None,
@@ -63,7 +65,9 @@ fn one_slot(alloc: Global) -> Option<Slot<MemGrip>> {
     Slot::opened(segment, None, alloc).ok()
 }
 
-fn one_segment(alloc: Global) -> Option<SegmentList<MemGrip>> {
+fn one_segment(alloc: Global) -> Option<SegmentList<MemGrip>>
+    ensures { IfSome result (λ list. list ≡ first_slot ∷ []) }
+{
     let mut slots = Vec::new(alloc);
     let slot = one_slot(alloc)?;
     slots.push(slot).ok()?;
