@@ -1,5 +1,5 @@
 -- What is read of a good state, and what its works read.
-use Rattle.std.proofs.Common.{◌≡◌, ◌∙◌, ℕ, zero, suc, ⊥, List, [], ◌∷◌, Option, Some, None, length, map, take, drop, Result, Ok, Err, refl, sym, ap, subst, arith}
+use Rattle.std.proofs.Common.{◌≡◌, ◌∙◌, ℕ, zero, suc, List, [], ◌∷◌, Option, Some, None, length, map, take, drop, Result, Ok, Err, refl, sym, ap, subst, arith}
 use Rattle.std.specs.Prelude.{◌==◌, IsErrOf, option_map, position, unwrap_or}
 use Rattle.std.specs.List.{AllByRecursion}
 use Rattle.column_block.specs.declared.cell.Version.{Version}
@@ -8,6 +8,7 @@ use Rattle.flash_types.specs.Asks.{Asked}
 use Rattle.committed_log.specs.Lawful.{IsLawful}
 use Rattle.good_replica.specs.Changed.{of_parts}
 use Rattle.good_replica.specs.Good.{AreGood}
+use Rattle.pack_codec.specs.declared.fault.FormError.{FormError}
 use Rattle.prefix_laws.specs.Tagged.{content, files_at}
 use Rattle.prefix_laws.proofs.Tagging.{all_by}
 use Rattle.delta_layer.specs.Files.{files_of}
@@ -80,7 +81,7 @@ module _ {G : Type 0} (bytes : G → List ℕ) where
 
   all_ok : (views : List (SegmentView G)) → AreViewsReadable bytes views → stables_in bytes views ≡ Ok []
   all_ok [] all = refl
-  all_ok (view ∷ more) all = ap (λ (read : Result (List Version) _). read >>= λ versions. stables_in bytes more) all.0.1 ∙ all_ok more all.1
+  all_ok (view ∷ more) all = ap (λ (read : Result (List Version) FormError). read >>= λ versions. stables_in bytes more) all.0.1 ∙ all_ok more all.1
 
   for_ok : (job : Job) (views : List (SegmentView G)) → AreViewsReadable bytes views → stables_in bytes (read_for job views) ≡ Ok []
   for_ok (Compact seg) views all = refl

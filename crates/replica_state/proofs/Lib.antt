@@ -3,4 +3,3 @@ pub mod Slots
 pub mod Applies
 pub mod Cutting
 pub mod Opened
-pub mod Answering
