@@ -1,5 +1,5 @@
 -- What is read of a good state, and what its works read.
-use Rattle.std.proofs.Common.{◌≡◌, ◌∙◌, ℕ, zero, suc, List, [], ◌∷◌, Option, Some, None, length, map, take, drop, Result, Ok, Err, refl, sym, ap, subst, arith}
+use Rattle.std.proofs.Common.{◌≡◌, ◌∙◌, ℕ, zero, suc, List, [], ◌∷◌, Option, Some, None, length, map, take, drop, Result, Ok, refl, sym, ap, subst, arith}
 use Rattle.std.specs.Prelude.{◌==◌, IsErrOf, option_map, position, unwrap_or}
 use Rattle.std.specs.List.{AllByRecursion}
 use Rattle.column_block.specs.declared.cell.Version.{Version}
@@ -12,7 +12,6 @@ use Rattle.pack_codec.specs.declared.fault.FormError.{FormError}
 use Rattle.prefix_laws.specs.Tagged.{content, files_at}
 use Rattle.prefix_laws.proofs.Tagging.{all_by}
 use Rattle.delta_layer.specs.Files.{files_of}
-use Rattle.delta_layer.specs.Stable.{stable_in}
 use Rattle.delta_layer.specs.declared.built.BuildError.{BuildError}
 use Rattle.delta_layer.specs.declared.built.BuildError.TheVariants.{Damaged}
 use Rattle.delta_layer.specs.declared.built.Built.{Built}
