@@ -39,7 +39,7 @@ said (t ∷ ts) [] e = absurd (omega (arith, e))
 said (t ∷ ts) (f ∷ fs) e = ap (λ gs. file_of f ∷ gs) (said ts fs (omega (arith, e)))
 
 module _ {G : Type 0} where
-  all_said : (s : Slotted G) → IsTagged s → map file_in (tagged (tags_of s) s.files) ≡ files_of s.files
+  pub all_said : (s : Slotted G) → IsTagged s → map file_in (tagged (tags_of s) s.files) ≡ files_of s.files
   all_said s e =
       let many : length (replicate s.named 0 ++ s.tags) ≡ s.named + length s.tags = length-append (replicate s.named 0) s.tags ∙ ap (λ n. n + length s.tags) (length-replicate s.named 0) in
       said (tags_of s) s.files (e ∙ sym many)

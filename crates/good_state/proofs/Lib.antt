@@ -3,3 +3,4 @@ pub mod Applying
 pub mod Flushing
 pub mod Raising
 pub mod Checking
+pub mod Reading

@@ -1,2 +1,4 @@
 pub mod Good
 pub mod Follows
+pub mod Changes
+pub mod Views

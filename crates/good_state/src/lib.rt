@@ -4,8 +4,10 @@
 #![tactic(auto)]
 
 mod laws;
+mod reads;
 
 pub use laws::{
     applies_keep_good, checkpoints_keep_good, flushes_keep_good, safe_points_keep_good,
     states_follow,
 };
+pub use reads::{reads_of_good_states_are_right, works_of_good_states_read};

@@ -3,6 +3,7 @@
 
 mod fault;
 mod laws;
+mod reads;
 mod replica;
 mod retired;
 

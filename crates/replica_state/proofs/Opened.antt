@@ -1,19 +1,15 @@
 -- What is in memory is in order at an opening.
-use Rattle.std.proofs.Common.{◌≡◌, ◌≢◌, ◌∙◌, ◌⊎◌, inl, inr, refl, sym, ap, subst, ℕ, zero, suc, ◌+◌, ◌-◌, ◌<◌, ◌≤◌, Bool, true, false, true≢false, Option, Some, None, List, [], ◌∷◌, length, take, arith, slice_get}
-use Rattle.std.specs.Prelude.{◌&&◌, ◌||◌, not}
-use Rattle.std.specs.List.{AllPairs}
-use Rattle.std.proofs.lemmas.Option.{slice_get_within}
-use Rattle.committed_log.specs.Applied.{IsClosed, entry_is}
+use Rattle.std.proofs.Common.{◌≡◌, sym, subst, ℕ, Bool, List, [], length, arith}
+use Rattle.committed_log.specs.Applied.{IsClosed}
 use Rattle.committed_log.specs.Lawful.{IsLawful}
 use Rattle.committed_log.specs.Log.{Log}
 use Rattle.flash_types.specs.Settings.{AreSettings}
 use Rattle.flash_types.specs.declared.settings.Settings.{Settings}
-use Rattle.log_codec.specs.declared.entry.Entry.{Entry}
 use Rattle.region_table.specs.Counting.{applied_in}
 use Rattle.region_table.specs.Table.{Table, IsTableAt, size_of}
 use Rattle.region_table.proofs.Sets.{of_table, set_is}
 use Rattle.segment_list.specs.Slots.{Slotted}
-use Rattle.replica_state.specs.Core.{Core, IsCore, AreSets, AreSlots, AreNumbers, IsHighest, full, opened, upto}
+use Rattle.replica_state.specs.Core.{Core, IsCore, AreSlots, AreNumbers, IsHighest}
 use Rattle.replica_state.specs.declared.numbers.Numbers.{Numbers}
 use Rattle.replica_state.proofs.Sets.{upto_all}
 

@@ -7,14 +7,13 @@ use Rattle.column_file.specs.declared.file.ColumnFile.TheVariants.{Mem, Tiny, De
 use Rattle.committed_log.specs.Applied.{IsClosed}
 use Rattle.committed_log.specs.Log.{Log}
 use Rattle.delta_layer.specs.Laws.{ViewSuits}
-use Rattle.delta_layer.specs.declared.view.SegmentView.{SegmentView}
 use Rattle.flash_types.specs.Settings.{AreSettings}
 use Rattle.flash_types.specs.declared.settings.Settings.{Settings}
 use Rattle.prefix_laws.specs.Prefixes as prefixes
 use Rattle.region_table.specs.Counting.{applied_in}
 use Rattle.region_table.specs.Table.{Table, IsTableAt, size_of}
 use Rattle.segment_list.specs.Order.{IsSlot}
-use Rattle.segment_list.specs.Slots.{Slotted}
+use Rattle.segment_list.specs.Slots.{Slotted, view_of}
 use Rattle.replica_state.specs.declared.numbers.Numbers.{Numbers}
 
 -- The log, the segments, and the table of the regions. `listed` are the positions that were applied since the opening, in order, and `committed` is how many of them the last checkpoint has. `count` is how many entries are applied in all, and `highest` one past the greatest of their positions.
@@ -80,10 +79,6 @@ pub record IsNumbered {G : Type 0} (next : ℕ) (s : Slotted G) : Type 0 where
   pub epoch : s.epoch < next
   pub files : AllByRecursion (IsFileBelow next) s.files
   pub stable : IsNumberBelow next s.stable_number
-
--- a slot's segment, as a view shows it
-abbrev pub view_of : {G : Type 0} → Slotted G → SegmentView G
-view_of s = record { seg = s.id; range = s.range; epoch = s.epoch; delta = s.files; stable = s.stable }
 
 -- its versions suit the columns, with which its stable part was opened
 abbrev pub SlotSuits : {G : Type 0} → List Column → Slotted G → Type 0

@@ -3,3 +3,5 @@ pub mod Applying
 pub mod Reads
 pub mod Opening
 pub mod Changes
+pub mod Asks
+pub mod Works

@@ -1,5 +1,5 @@
 -- What is in memory once a store is opened.
-use Rattle.std.specs.Prelude.{◌≡◌, ℕ, List, []}
+use Rattle.std.specs.Prelude.{◌≡◌, List, []}
 use Rattle.committed_log.specs.Log.{Log}
 use Rattle.flash_types.specs.declared.settings.Settings.{Settings}
 use Rattle.region_table.specs.Table.{Table}

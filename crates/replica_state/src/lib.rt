@@ -4,17 +4,21 @@
 
 mod apply;
 mod changes;
+mod asks;
 mod laws;
 mod numbers;
 mod opening;
 mod queries;
 mod reads;
 mod state;
+mod works;
 
 pub use apply::Applied;
+pub use asks::ReadRefusal;
 pub use laws::applied_states_keep_sets;
 pub use numbers::Numbers;
 pub use state::State;
+pub use works::{Task, build};
 
 /// Memory ran out.
 #[derive(Clone, Copy, Debug, PartialEq, Eq)]

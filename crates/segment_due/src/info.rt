@@ -1,12 +1,10 @@
 // What is told of a segment.
 ghost use Rattle.std.specs.Prelude.{◌≡◌, List, option_map, slice_get};
-ghost use Rattle.delta_layer.specs.Files.{is_tiny};
 ghost use Rattle.segment_due.specs.Infos.{info_of, longest_run, total_of};
 
-use column_file::ColumnFile;
 use delta_layer::DeltaLayer;
 use flash_types::{HandleRange, SegId};
-use segment_list::{SegmentList, Slot};
+use segment_list::{SegmentList, Slot, is_tiny};
 
 /// What is told of a segment. Versions are counted as they stand in its files, each as often as it
 /// stands, also where a later file replaces or clears it.
@@ -27,16 +25,6 @@ pub struct SegInfo {
     /// The versions of its delta and of its stable part's packs that meet its range; 2^64 less one
     /// where they are more.
     pub total: u64,
-}
-
-fn is_tiny(file: &ColumnFile) -> bool
-    ensures { result ≡ is_tiny file.now }
-{
-    match file {
-        ColumnFile::Mem { .. } => false,
-        ColumnFile::Tiny { .. } => true,
-        ColumnFile::DeleteRange { .. } => false,
-    }
 }
 
 // The length of the longest run of tiny files. It looks at each file once.

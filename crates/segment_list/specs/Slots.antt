@@ -10,6 +10,7 @@ use Rattle.stable_file.specs.declared.file.StableFile.{StableFile}
 use Rattle.stable_file.specs.Opened.{count_in, packs_of}
 use Rattle.std.specs.List.{sum_by}
 use Rattle.delta_layer.specs.Files.{file_of}
+use Rattle.delta_layer.specs.declared.view.SegmentView.{SegmentView}
 use Rattle.prefix_laws.specs.Clipped.{speaks}
 use Rattle.prefix_laws.specs.Tagged.{Tagged, TaggedSegment, tagged_of}
 
@@ -98,6 +99,10 @@ module _ {G : Type 0} where
   -- A slot after an entry: its delete-range and then its versions come last, both clipped to the slot, where they say something of it.
   abbrev pub absorbed : ℕ → Option HandleRange → List Version → Slotted G → Slotted G
   absorbed tag clears adds s = pushed_some tag (added_file s.range adds) (pushed_some tag (cleared_file s.range clears) s)
+
+  -- its segment, as a view shows it
+  abbrev pub view_of : Slotted G → SegmentView G
+  view_of s = record { seg = s.id; range = s.range; epoch = s.epoch; delta = s.files; stable = s.stable }
 
   -- its number and its handles
   abbrev pub key_of : Slotted G → ℕ × HandleRange

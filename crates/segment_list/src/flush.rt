@@ -78,6 +78,17 @@ pub fn is_mem(file: &ColumnFile) -> bool
     }
 }
 
+/// Whether a file is a tiny one.
+pub fn is_tiny(file: &ColumnFile) -> bool
+    ensures { result ≡ is_tiny file.now }
+{
+    match file {
+        ColumnFile::Mem { .. } => false,
+        ColumnFile::Tiny { .. } => true,
+        ColumnFile::DeleteRange { .. } => false,
+    }
+}
+
 // Adds a file to a layer.
 fn append(layer: &mut DeltaLayer, file: ColumnFile) -> Result<(), Memory>
     requires { is_tiny file ≡ true → HasNoMem layer.old }

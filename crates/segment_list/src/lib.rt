@@ -10,7 +10,7 @@ mod segments;
 mod slot;
 
 pub use clip::{can_speak, clipped, kept};
-pub use flush::Flush;
+pub use flush::{Flush, is_tiny};
 pub use gathered::Gathering;
 pub use laws::{
     absorbed_lists_say_the_entry, absorbed_slots_say_the_entry, absorbed_slots_stay_in_order,

@@ -14,9 +14,9 @@ use Rattle.good_replica.specs.Good.{CoversFrom}
 use Rattle.delta_layer.specs.declared.view.SegmentView.{SegmentView}
 use Rattle.learner_read.specs.Pieces.{meets}
 use Rattle.segment_list.specs.Lists.{range_alone}
-use Rattle.segment_list.specs.Slots.{Slotted}
+use Rattle.segment_list.specs.Slots.{Slotted, view_of}
 use Rattle.segment_list.proofs.Places.{found_behind, found_here}
-use Rattle.segment_snapshot.specs.Views.{AreNeeded, HasOpenFile, needed_views, needs_slot, view_of}
+use Rattle.segment_snapshot.specs.Views.{AreNeeded, HasOpenFile, needed_views, needs_slot}
 
 out_first : (a b c : Bool) → a ≡ false → ((a && b) && c) ≡ false
 out_first true b c e = absurd (true≢false e)

@@ -37,9 +37,9 @@ use Rattle.read_laws.specs.Reads.{AreReadOf, HasNeeded, HasPiece, HaveShown, Tel
 use Rattle.read_laws.proofs.Covered.{asked_is_covered}
 use Rattle.read_laws.proofs.Filtered.{all_pass}
 use Rattle.read_laws.proofs.Passing.{rows_read}
-use Rattle.segment_list.specs.Slots.{Slotted}
+use Rattle.segment_list.specs.Slots.{Slotted, view_of}
 use Rattle.segment_snapshot.specs.Rights.{AreReadable, IsReadable, IsRightScan, Reads, ScansGive, TellBound, answers_as, stable_of, versions_or_none, whole}
-use Rattle.segment_snapshot.specs.Views.{HasOpenFile, IsSnapshotOf, needed_views, needs_slot, view_of}
+use Rattle.segment_snapshot.specs.Views.{HasOpenFile, IsSnapshotOf, needed_views, needs_slot}
 use Rattle.segment_snapshot.proofs.Needed.{each_piece, passed_over, shared}
 use Rattle.segment_snapshot.proofs.Widths.{none_told}
 

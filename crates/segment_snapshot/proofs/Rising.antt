@@ -11,8 +11,8 @@ use Rattle.good_replica.specs.Good.{CoversFrom}
 use Rattle.delta_layer.specs.declared.view.SegmentView.{SegmentView}
 use Rattle.learner_read.specs.Pieces.{PiecesRise, ends_before}
 use Rattle.segment_list.specs.Lists.{range_alone}
-use Rattle.segment_list.specs.Slots.{Slotted}
-use Rattle.segment_snapshot.specs.Views.{needed_views, needs_slot, view_of}
+use Rattle.segment_list.specs.Slots.{Slotted, view_of}
+use Rattle.segment_snapshot.specs.Views.{needed_views, needs_slot}
 use Rattle.segment_snapshot.proofs.Needed.{passed_over, shared}
 
 same_le : (a b c : ℤ) → a ≡ b → int_le c b ≡ true → int_le c a ≡ true

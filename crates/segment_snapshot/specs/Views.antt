@@ -10,13 +10,9 @@ use Rattle.stable_file.specs.Opened.{ArePacks, packs_of}
 use Rattle.stable_file.specs.declared.file.StableFile.{StableFile}
 use Rattle.learner_read.specs.Pieces.{is_needed}
 use Rattle.learner_read.specs.declared.snapshot.Snapshot.{Snapshot}
-use Rattle.segment_list.specs.Slots.{Slotted}
+use Rattle.segment_list.specs.Slots.{Slotted, view_of}
 
 module _ {G : Type 0} where
-  -- the view of a segment
-  abbrev pub view_of : Slotted G → SegmentView G
-  view_of s = record { seg = s.id; range = s.range; epoch = s.epoch; delta = s.files; stable = s.stable }
-
   -- whether a read with this clip and these cuts needs the segment
   abbrev pub needs_slot : HandleRange → List Cut → Slotted G → Bool
   needs_slot clip cuts s = is_needed clip cuts s.range

@@ -5,7 +5,8 @@ ghost use Rattle.flash_types.specs.declared.refusal.Cut.{Cut};
 ghost use Rattle.good_replica.specs.Good.{CoversFrom};
 ghost use Rattle.learner_read.specs.Pieces.{CutsAreApart};
 ghost use Rattle.segment_list.specs.Lists.{range_alone};
-ghost use Rattle.segment_snapshot.specs.Views.{AreNeeded, HasOpenFile, IsSnapshotOf, needed_views, view_of, with_slot};
+ghost use Rattle.segment_list.specs.Slots.{view_of};
+ghost use Rattle.segment_snapshot.specs.Views.{AreNeeded, HasOpenFile, IsSnapshotOf, needed_views, with_slot};
 
 use delta_layer::SegmentView;
 use flash_types::{Cut, Handle, HandleRange, Ts};

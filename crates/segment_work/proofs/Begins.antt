@@ -7,9 +7,9 @@ use Rattle.delta_layer.specs.declared.built.Job.TheVariants.{Compact, MergeDelta
 use Rattle.flash_types.specs.Ranges.{is_below}
 use Rattle.good_replica.specs.Good.{CoversFrom}
 use Rattle.segment_list.specs.Lists.{range_alone}
-use Rattle.segment_list.specs.Slots.{Slotted}
+use Rattle.segment_list.specs.Slots.{Slotted, view_of}
 use Rattle.segment_list.proofs.Places.{found_behind, found_here}
-use Rattle.segment_work.specs.Begun.{AreFor, segments_for, view_of}
+use Rattle.segment_work.specs.Begun.{AreFor, segments_for}
 use Rattle.segment_work.specs.Jobs.{can_begin_on, has_any, segment_of, slots_from}
 
 -- from a place on stand one that passes, and the others

@@ -10,8 +10,7 @@ use Rattle.column_file.specs.declared.file.ColumnFile.{ColumnFile}
 use Rattle.delta_layer.specs.Overlay.{block_in}
 use Rattle.segment_laws.specs.Runs.{run_of, tiny_at_place}
 use Rattle.segment_list.proofs.Rows.{one_more}
-use Rattle.segment_list.specs.Slots.{Slotted}
-use Rattle.segment_work.specs.Begun.{view_of}
+use Rattle.segment_list.specs.Slots.{Slotted, view_of}
 use Rattle.segment_work.specs.Jobs.{has_run}
 
 -- ---- the first two

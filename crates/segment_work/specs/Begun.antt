@@ -4,7 +4,7 @@ use Rattle.delta_layer.specs.Built.{AreTwo, IsOne}
 use Rattle.delta_layer.specs.declared.built.Job.{Job}
 use Rattle.delta_layer.specs.declared.built.Job.TheVariants.{Compact, MergeDelta, Split, Merge}
 use Rattle.delta_layer.specs.declared.view.SegmentView.{SegmentView}
-use Rattle.segment_list.specs.Slots.{Slotted}
+use Rattle.segment_list.specs.Slots.{Slotted, view_of}
 use Rattle.segment_merge.specs.Joined.{Touch}
 use Rattle.segment_work.specs.Jobs.{has_run, segment_of, slots_from}
 
@@ -21,9 +21,6 @@ segments_for (Compact seg) = 1
 segments_for (MergeDelta seg) = 1
 segments_for (Split seg) = 1
 segments_for (Merge seg) = 2
-
-abbrev pub view_of : {G : Type 0} → Slotted G → SegmentView G
-view_of s = record { seg = s.id; range = s.range; epoch = s.epoch; delta = s.files; stable = s.stable }
 
 -- A job that was begun on these slots: it has a view of its slot, and for a merge of the next one too.
 abbrev pub begun : {G : Type 0} → Job → ℕ → ℕ → List (Slotted G) → Begun G

@@ -9,3 +9,6 @@ mod work;
 
 pub use builds::build;
 pub use work::{Work, begin};
+
+#[cfg(test)]
+mod tests;

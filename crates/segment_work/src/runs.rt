@@ -10,17 +10,8 @@ ghost use Rattle.segment_work.specs.Jobs.{has_run};
 use column_block::Block;
 use column_file::ColumnFile;
 use delta_layer::{DeltaLayer, DeltaView, Memory};
+use segment_list::is_tiny;
 use std::alloc::Global;
-
-fn is_tiny(file: &ColumnFile) -> bool
-    ensures { result ≡ is_tiny file.now }
-{
-    match file {
-        ColumnFile::Mem { .. } => false,
-        ColumnFile::Tiny { .. } => true,
-        ColumnFile::DeleteRange { .. } => false,
-    }
-}
 
 // Whether a tiny file stands at a place of a layer.
 fn is_tiny_in(layer: &DeltaLayer, place: usize) -> bool

@@ -1,6 +1,7 @@
 // Works that were begun.
 ghost use Rattle.std.specs.Prelude.{◌≡◌, ◌<◌, ◌≤◌, ◌+◌, [], ◌∷◌, ◌++◌, drop, length, map, take, is_some, IfOk, IfSome, OnOk};
-ghost use Rattle.segment_work.specs.Begun.{IsReady, begun, segments_for, view_of};
+ghost use Rattle.segment_list.specs.Slots.{view_of};
+ghost use Rattle.segment_work.specs.Begun.{IsReady, begun, segments_for};
 ghost use Rattle.segment_work.specs.Jobs.{can_begin, can_begin_on, segment_of};
 
 use crate::runs::has_run;

@@ -2,8 +2,8 @@ use Rattle.std.proofs.Common.{◌≡◌, ◌∙◌, sym, ap, subst, ℕ, ◌+◌
 use Rattle.std.specs.Prelude.{position, ◌==◌}
 use Rattle.delta_layer.specs.declared.view.SegmentView.{SegmentView}
 use Rattle.flash_types.specs.Ranges.{least_handle}
-use Rattle.segment_list.specs.Slots.{Slotted}
-use Rattle.segment_work.specs.Begun.{AreFor, segments_for, view_of}
+use Rattle.segment_list.specs.Slots.{Slotted, view_of}
+use Rattle.segment_work.specs.Begun.{AreFor, segments_for}
 use Rattle.segment_work.specs.Jobs.{can_begin_on, segment_of}
 use Rattle.segment_work.proofs.Begins.{begun_at, enough}
 use Rattle.segment_work.proofs.work.begin.Goals as goal

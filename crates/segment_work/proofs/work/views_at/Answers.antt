@@ -1,6 +1,6 @@
 use Rattle.std.proofs.Common.{◌≡◌, ◌∙◌, sym, ap, ◌<◌, List, [], ◌∷◌, ◌++◌, length, arith}
 use Rattle.delta_layer.specs.declared.view.SegmentView.{SegmentView}
-use Rattle.segment_work.specs.Begun.{view_of}
+use Rattle.segment_list.specs.Slots.{view_of}
 use Rattle.segment_work.proofs.RunPlaces.{views_more}
 use Rattle.segment_work.proofs.work.views_at.Goals as goal
 

@@ -5,7 +5,6 @@ use Rattle.committed_log.specs.Log.{Log}
 use Rattle.region_table.specs.Counting.{applied_in}
 use Rattle.region_table.specs.Table.{IsTableAt, size_of}
 use Rattle.replica_state.specs.Core.{IsCore, IsHighest}
-use Rattle.replica_state.specs.Opening.{IsOpened}
 use Rattle.replica_state.proofs.Opened.{opened_in_order}
 use Rattle.replica_state.proofs.state.State.opened.Goals as goal
 
