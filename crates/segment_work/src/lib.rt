@@ -8,4 +8,5 @@ mod runs;
 mod work;
 
 pub use builds::build;
+pub use runs::first_run;
 pub use work::{Work, begin};

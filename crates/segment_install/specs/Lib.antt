@@ -1,0 +1,4 @@
+pub mod Slots
+pub mod Told
+pub mod Stale
+pub mod Plans

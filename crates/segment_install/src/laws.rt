@@ -1,0 +1,23 @@
+// Laws of the slots of an install, which callers may use. They do nothing when they run.
+ghost use Rattle.segment_install.specs.Told.{CompactedSlotsSayTheRun, HalfSlotsSayTheirPart, JoinedSlotsSayBoth, MergedSlotsSayTheRest};
+
+/// The slot of a delta merge says its own versions, and above them what came since.
+pub fn merged_slots_say_the_rest<G>()
+    ensures { MergedSlotsSayTheRest G }
+{}
+
+/// A half of a split says its own versions, and above them its part of what came since.
+pub fn half_slots_say_their_part<G>()
+    ensures { HalfSlotsSayTheirPart G }
+{}
+
+/// The slot of a merge says its own versions, and above them what came since to both, each kept to
+/// its own handles, what is named first.
+pub fn joined_slots_say_both<G>()
+    ensures { JoinedSlotsSayBoth G }
+{}
+
+/// The slot of a compaction says the versions of the run in the run's place.
+pub fn compacted_slots_say_the_run<G>()
+    ensures { CompactedSlotsSayTheRun G }
+{}

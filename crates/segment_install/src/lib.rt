@@ -1,0 +1,22 @@
+//! What an install does to the segments: what was built takes the place of the segments that it was
+//! built of, below what came to them since.
+#![tactic(auto)]
+
+mod laws;
+mod made;
+mod part;
+mod plan;
+mod rest;
+mod stale;
+
+pub use laws::{
+    compacted_slots_say_the_run, half_slots_say_their_part, joined_slots_say_both,
+    merged_slots_say_the_rest,
+};
+pub use part::{Files, Part};
+pub use plan::{Install, numbers_for, plan, put};
+pub use stale::stale;
+
+/// Memory ran out.
+#[derive(Clone, Copy, Debug, PartialEq, Eq)]
+pub struct Memory;
