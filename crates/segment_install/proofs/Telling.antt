@@ -24,7 +24,7 @@ rest_says : Rest → List Tagged
 rest_says rest = named_told rest.named ++ map told_one rest.others
 
 pub says_rest : (rest : Rest) → tagged (replicate (length rest.named) 0 ++ map tag_in rest.others) (rest.named ++ map file_in rest.others) ≡ rest_says rest
-unfolding rest_says, named_told
+unfolding rest_says named_told
 says_rest rest = both_told (replicate (length rest.named) 0) (map tag_in rest.others) rest.named (map file_in rest.others) (sym (length-replicate (length rest.named) 0)) ∙ ap (λ (r : List Tagged). tagged (replicate (length rest.named) 0) rest.named ++ r) (pairs_told rest.others)
 
 clip_says : (range : HandleRange) (rest : Rest) → rest_says (clip_rest range rest) ≡ clip range (named_told rest.named) ++ clip range (map told_one rest.others)

@@ -1,5 +1,12 @@
 // Laws of the slots of an install, which callers may use. They do nothing when they run.
+ghost use Rattle.std.specs.Prelude.{ℕ, List};
+ghost use Rattle.column_block.specs.declared.column.Column.{Column};
+ghost use Rattle.delta_layer.specs.declared.built.Built.{Built};
+ghost use Rattle.segment_laws.specs.Jobs.{IsBuilt};
+ghost use Rattle.segment_install.specs.Plans.{IsBuiltFor};
 ghost use Rattle.segment_install.specs.Told.{CompactedSlotsSayTheRun, HalfSlotsSayTheirPart, JoinedSlotsSayBoth, MergedSlotsSayTheRest};
+
+use flash_io::Gripped;
 
 /// The slot of a delta merge says its own versions, and above them what came since.
 pub fn merged_slots_say_the_rest<G>()
@@ -20,4 +27,10 @@ pub fn joined_slots_say_both<G>()
 /// The slot of a compaction says the versions of the run in the run's place.
 pub fn compacted_slots_say_the_run<G>()
     ensures { CompactedSlotsSayTheRun G }
+{}
+
+/// What is built of a work has as many views and pieces as its job makes, of the ranges that it
+/// makes.
+pub fn builds_can_be_installed<G: Gripped>()
+    ensures { (columns : List Column) (rows : ℕ) (built : Built G) → IsBuilt G.Gripped.tells G.Gripped.bytes columns rows built → IsBuiltFor built.job built }
 {}

@@ -10,7 +10,7 @@ mod rest;
 mod stale;
 
 pub use laws::{
-    compacted_slots_say_the_run, half_slots_say_their_part, joined_slots_say_both,
+    builds_can_be_installed,     compacted_slots_say_the_run, half_slots_say_their_part, joined_slots_say_both,
     merged_slots_say_the_rest,
 };
 pub use part::{Files, Part};

@@ -11,7 +11,7 @@ ghost use Rattle.segment_work.specs.Jobs.{segment_of};
 use crate::Memory;
 use crate::made::{compacted_slot, half_slot, joined_slot, merged_slot};
 use crate::part::{Files, part_of};
-use delta_layer::{Built, Job};
+use delta_layer::{Built, Job, blocks_become_one};
 use flash_io::FileId;
 use flash_types::SegId;
 use segment_list::{SegmentList, Slot};
@@ -103,6 +103,7 @@ fn compacted<G: Drop>(
     requires laid { IsLaid first slot.now }
     ensures { IfOk result (λ news. IsCompacted first built.now slot.now news.items) }
 {
+    blocks_become_one();
     let (from, to) = first_run(&built.views.as_slice()[0].delta);
     let versions = &built.pieces.as_slice()[0].versions;
     let new = compacted_slot(slot, from, to, versions, first, alloc)?;
@@ -233,6 +234,7 @@ pub fn plan<G: Drop>(
     ensures { IfOk result (λ install. IsPlan first files built.now list.now install) }
 {
     list.covers();
+    list.numbers_differ();
     let Some(place) = list.slot_with(segment_of(built.job)) else {
         unreachable!();
     };

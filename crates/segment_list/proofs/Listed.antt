@@ -73,7 +73,7 @@ module _ {X : Type 0} (p q : X → Bool) (xs : List X) (narrower : (k : ℕ) (d 
 
 -- ---- slots
 
-held_low : (r : HandleRange) → has_any r ≡ true → holds r r.low ≡ true
+pub held_low : (r : HandleRange) → has_any r ≡ true → holds r r.low ≡ true
 held_low r filled = ap (λ (x : Bool). x && is_below r.low r.high) (le_itself r.low) ∙ filled
 
 apart : (h a : ℤ) → int_lt h a ≡ true → int_le a h ≡ true → ⊥
@@ -105,7 +105,7 @@ module _ {G : Type 0} where
   cover_from low (s ∷ []) c = (c.0, c.1, ap (is_below s.range.low) c.1)
   cover_from low (s ∷ t ∷ more) c = (c.0, c.1, c.2, cover_from t.range.low (t ∷ more) c.3)
 
-  each_filled : (high : Option ℤ) (low : ℤ) (slots : List (Slotted G)) → CoverTo high low slots → AllByRecursion (λ (s : Slotted G). has_any s.range ≡ true) slots
+  pub each_filled : (high : Option ℤ) (low : ℤ) (slots : List (Slotted G)) → CoverTo high low slots → AllByRecursion (λ (s : Slotted G). has_any s.range ≡ true) slots
   each_filled high low [] c = absurd (false≢true c)
   each_filled high low (s ∷ []) c = (c.2, tt)
   each_filled high low (s ∷ t ∷ more) c = (c.2, each_filled high t.range.low (t ∷ more) c.3)
@@ -209,5 +209,5 @@ module _ {G : Type 0} where
   still_noted old new x y q other put = put ∙ by (is_at (nat_cmp x.id) q) refl
     where
       by : (t : Bool) → is_at (nat_cmp x.id) q ≡ t → cond (is_at (nat_cmp x.id) q) y (old q) ≡ old q
-      by true at = absurd (other (sym (exact_unsigned x.id q ((Equal-is (nat_cmp x.id q)).0 at))))
+      by true at = absurd (other (exact_unsigned x.id q ((Equal-is (nat_cmp x.id q)).0 at)))
       by false at = ap (λ (b : Bool). cond b y (old q)) at

@@ -1,34 +1,37 @@
 -- Slots that take the place of others.
 use Rattle.std.proofs.Common.{◌≡◌, ◌≢◌, ◌∙◌, refl, sym, ap, subst, ℕ, zero, suc, ◌+◌, ◌-◌, ◌<◌, ◌≤◌, ℤ, Bool, true, false, Option, Some, None, List, [], ◌∷◌, ◌++◌, length, map, take, drop, get_or, reverse, nat_lt, arith}
+use Rattle.std.specs.Prelude.{filter, slice_get}
 use Rattle.std.proofs.lemmas.Bool.{false≢true}
 use Rattle.std.proofs.lemmas.Bool.Decides.{nat_tests}
-use Rattle.std.proofs.lemmas.List.{append_assoc, append-nil, get_or-append-add, get_or_append_left, get_or-drop, get_or-take, length-append, length-drop, length-take-le, reverse-append, reverse-reverse, take-append-drop}
+use Rattle.std.proofs.lemmas.List.{append_assoc, append-nil, get_or-append-add, get_or_append_left, get_or-drop, get_or-take, length-append, length-drop, length-take-le, map-append, reverse-append, reverse-reverse, take-append-drop}
+use Rattle.std.proofs.lemmas.List.Elements.{filter-append}
+use Rattle.column_file.specs.declared.file.ColumnFile.{ColumnFile}
 use Rattle.flash_types.specs.Ranges.{has_any, least_handle}
 use Rattle.flash_types.specs.declared.range.HandleRange.{HandleRange}
 use Rattle.good_replica.specs.Good.{CoversFrom}
 use Rattle.segment_list.specs.Lists.{AreNoted, AreSegments, Cover, CoverAlike, CoverTo, NumbersDiffer, range_alone, with_slots}
-use Rattle.segment_list.specs.Slots.{Slotted}
+use Rattle.segment_list.specs.Slots.{Slotted, clip_file, clip_files, file_speaks}
 use Rattle.segment_list.proofs.Listed.{cover_from, get_same}
 
 -- ---- lists that are moved
 
 -- the last of some first elements is the first of the others
-pub one_less : {X : Type 0} (all front : List X) (x : X) (n : ℕ) → length front ≡ n → take (n + 1) all ≡ front ++ x ∷ [] → (front ≡ take n all) × (drop n all ≡ x ∷ drop (n + 1) all)
+pub one_less : {X : Type 0} (all front : List X) (x : X) (n : ℕ) → length front ≡ n → take (suc n) all ≡ front ++ x ∷ [] → (front ≡ take n all) × (drop n all ≡ x ∷ drop (suc n) all)
 one_less [] [] x n long e = absurd (cc e)
 one_less [] (f ∷ fs) x n long e = absurd (cc e)
-one_less (a ∷ all) [] x zero long e = (refl, (let same : a ≡ x = cc in ap (λ (y : _). y ∷ all) same))
-one_less (a ∷ all) [] x (suc n) long e = absurd (omega arith)
-one_less (a ∷ all) (f ∷ fs) x zero long e = absurd (omega arith)
+one_less {X = X} (a ∷ all) [] x zero long e = (refl, (let same : a ≡ x = cc e in ap (λ (y : X). y ∷ all) same))
+one_less (a ∷ all) [] x (suc n) long e = absurd (omega (arith, long))
+one_less (a ∷ all) (f ∷ fs) x zero long e = absurd (omega (arith, long))
 one_less {X = X} (a ∷ all) (f ∷ fs) x (suc n) long e =
-    let same : a ≡ f = cc in
-    let more : take (n + 1) all ≡ fs ++ x ∷ [] = cc in
-    let rest = one_less all fs x n (omega arith) more in
+    let same : a ≡ f = cc e in
+    let more : take (suc n) all ≡ fs ++ x ∷ [] = cc e in
+    let rest = one_less all fs x n (omega (arith, long)) more in
     (ap (λ (y : X). y ∷ fs) (sym same) ∙ ap (λ (ys : List X). a ∷ ys) rest.0, rest.1)
 
-pub one_moved : {X : Type 0} (to all : List X) (x : X) (n : ℕ) → drop n all ≡ x ∷ drop (n + 1) all → (to ++ reverse (drop (n + 1) all)) ++ x ∷ [] ≡ to ++ reverse (drop n all)
+pub one_moved : {X : Type 0} (to all : List X) (x : X) (n : ℕ) → drop n all ≡ x ∷ drop (suc n) all → (to ++ reverse (drop (suc n) all)) ++ x ∷ [] ≡ to ++ reverse (drop n all)
 one_moved {X = X} to all x n e =
-    append_assoc to (reverse (drop (n + 1) all)) (x ∷ [])
-    ∙ ap (λ (r : List X). to ++ r) (sym (reverse-append (x ∷ []) (drop (n + 1) all)) ∙ ap reverse (sym e))
+    append_assoc to (reverse (drop (suc n) all)) (x ∷ [])
+    ∙ ap (λ (r : List X). to ++ r) (sym (reverse-append (x ∷ []) (drop (suc n) all)) ∙ ap reverse (sym e))
 
 pub all_moved : {X : Type 0} (a b c : List X) → reverse ((([] ++ reverse c) ++ reverse b) ++ reverse a) ≡ a ++ (b ++ c)
 all_moved {X = X} a b c =
@@ -46,14 +49,33 @@ take_again (suc n) zero xs le = absurd (omega arith)
 take_again (suc n) (suc m) [] le = refl
 take_again {X = X} (suc n) (suc m) (x ∷ xs) le = ap (λ (r : List X). x ∷ r) (take_again n m xs (omega arith))
 
+none_left : {X : Type 0} (n : ℕ) → ◌≡◌ {A = List X} (drop n []) []
+none_left zero = refl
+none_left (suc n) = refl
+
 pub drop_again : {X : Type 0} (n m : ℕ) (xs : List X) → drop m (drop n xs) ≡ drop (n + m) xs
-drop_again zero m xs = refl
-drop_again (suc n) m [] = none m
-  where
-    none : {X : Type 0} (k : ℕ) → ◌≡◌ {A = List X} (drop k []) (drop (suc n + k) [])
-    none zero = refl
-    none (suc k) = refl
-drop_again (suc n) m (x ∷ xs) = drop_again n m xs
+drop_again {X = X} zero m xs = let same : m ≡ 0 + m = omega arith in ap (λ (k : ℕ). drop k xs) same
+drop_again (suc n) m [] = none_left m ∙ sym (none_left (suc n + m))
+drop_again {X = X} (suc n) m (x ∷ xs) = let same : suc (n + m) ≡ suc n + m = omega arith in drop_again n m xs ∙ ap (λ (k : ℕ). drop k (x ∷ xs)) same
+
+pub taken_at : {X : Type 0} (n : ℕ) (xs : List X) (k : ℕ) → k < n → slice_get (take n xs) k ≡ slice_get xs k
+taken_at zero xs k lt = absurd (omega (arith, lt))
+taken_at (suc n) [] k lt = refl
+taken_at (suc n) (x ∷ xs) zero lt = refl
+taken_at (suc n) (x ∷ xs) (suc k) lt = taken_at n xs k (omega (arith, lt))
+
+one_taken : {X : Type 0} (xs : List X) (k : ℕ) (x : X) → slice_get xs k ≡ Some x → take (suc k) xs ≡ take k xs ++ x ∷ []
+one_taken [] k x e = absurd (cc e)
+one_taken {X = X} (y ∷ ys) zero x e = let same : y ≡ x = cc e in ap (λ (z : X). z ∷ []) same
+one_taken {X = X} (y ∷ ys) (suc k) x e = ap (λ (r : List X). y ∷ r) (one_taken ys k x e)
+
+-- one more file, clipped
+pub named_more : (range : HandleRange) (before files : List ColumnFile) (n : ℕ) (f : ColumnFile) → slice_get files n ≡ Some f → (before ++ clip_files range (take n files)) ++ filter file_speaks (clip_file range f ∷ []) ≡ before ++ clip_files range (take (suc n) files)
+named_more range before files n f e =
+    append_assoc before (clip_files range (take n files)) (filter file_speaks (clip_file range f ∷ []))
+    ∙ ap (λ (r : List ColumnFile). before ++ r)
+    (sym (filter-append file_speaks (map (clip_file range) (take n files)) (clip_file range f ∷ []))
+    ∙ ap (filter file_speaks) (sym (map-append (clip_file range) (take n files) (f ∷ [])) ∙ ap (map (clip_file range)) (sym (one_taken files n f e))))
 
 -- what stands before a place, `count` behind it, and what stands behind those
 pub in_three : {X : Type 0} (place count : ℕ) (xs : List X) → take place xs ++ (take count (drop place xs) ++ drop (place + count) xs) ≡ xs
@@ -126,13 +148,13 @@ module _ {G : Type 0} where
       differ (length xs + i) (length xs + j) d (omega (arith, less)) (omega (arith, lt, length-append xs ys))
       (ap (λ (s : Slotted G). s.id) (get_or-append-add xs ys i d) ∙ e ∙ ap (λ (s : Slotted G). s.id) (sym (get_or-append-add xs ys j d)))
 
-  fronts_differ : (xs ys : List (Slotted G)) → NumbersDiffer (xs ++ ys) → NumbersDiffer xs
+  pub fronts_differ : (xs ys : List (Slotted G)) → NumbersDiffer (xs ++ ys) → NumbersDiffer xs
   fronts_differ xs ys differ i j d less lt e =
       differ i j d less (omega (arith, lt, length-append xs ys))
       (ap (λ (s : Slotted G). s.id) (get_or_append_left xs ys d i (omega (arith, less, lt))) ∙ e ∙ ap (λ (s : Slotted G). s.id) (sym (get_or_append_left xs ys d j lt)))
 
   -- of two parts each of the one and each of the other
-  parts_differ : (xs ys : List (Slotted G)) → NumbersDiffer (xs ++ ys) → (i j : ℕ) (d : Slotted G) → i < length xs → j < length ys → (get_or xs i d).id ≢ (get_or ys j d).id
+  pub parts_differ : (xs ys : List (Slotted G)) → NumbersDiffer (xs ++ ys) → (i j : ℕ) (d : Slotted G) → i < length xs → j < length ys → (get_or xs i d).id ≢ (get_or ys j d).id
   parts_differ xs ys differ i j d a b e =
       differ i (length xs + j) d (omega (arith, a)) (omega (arith, b, length-append xs ys))
       (ap (λ (s : Slotted G). s.id) (get_or_append_left xs ys d i a) ∙ e ∙ ap (λ (s : Slotted G). s.id) (sym (get_or-append-add xs ys j d)))

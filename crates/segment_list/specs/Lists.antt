@@ -37,6 +37,11 @@ NumbersDiffer {G} slots = AllPairs (λ (s t : Slotted G). s.id ≢ t.id) slots
 abbrev pub AreNoted : {G : Type 0} → (ℕ → Option ℤ) → List (Slotted G) → Type 0
 AreNoted {G} low_of slots = All (λ (s : Slotted G). low_of s.id ≡ Some s.range.low) slots
 
+-- It is known of these slots now, and of other numbers what was known before.
+pub record HaveNoted {G : Type 0} (old new : ℕ → Option ℤ) (slots : List (Slotted G)) : Type 0 where
+  pub noted : AreNoted new slots
+  pub others : (q : ℕ) → All (λ (s : Slotted G). s.id ≢ q) slots → new q ≡ old q
+
 -- The slots cover all handles, their numbers differ, and where all of them are noted it is known for the number of each where the slot begins.
 pub record AreSegments {G : Type 0} (low_of : ℕ → Option ℤ) (all_noted : Bool) (slots : List (Slotted G)) : Type 0 where
   pub cover : CoversFrom least_handle (map range_alone slots)

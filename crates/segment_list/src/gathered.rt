@@ -101,6 +101,7 @@ impl Gathering {
         from: usize,
         to: usize,
     ) -> Result<(), Memory>
+        requires order { from ≤ to }
         requires within { to ≤ length layer.now }
         requires no_tiny { (k : ℕ) (f : ColumnFile) → from ≤ k → slice_get layer.now k ≡ Some f → is_tiny f ≡ false }
         ensures { OnOk result (self.new ≡ record self.old { files = self.old.files ++ clip_files range (take (to - from) (drop from layer.now)) }) }

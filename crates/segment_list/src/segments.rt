@@ -6,7 +6,7 @@ ghost use Rattle.std.specs.BTreeMap.{get, is_at};
 ghost use Rattle.std.specs.Ordering.{nat_cmp};
 ghost use Rattle.flash_types.specs.Ranges.{all_handles, holds, least_handle};
 ghost use Rattle.good_replica.specs.Good.{CoversFrom};
-ghost use Rattle.segment_list.specs.Lists.{AreNoted, Cover, CoverAlike, NumbersDiffer, is_file_in, range_alone, with_slots};
+ghost use Rattle.segment_list.specs.Lists.{AreNoted, Cover, CoverAlike, HaveNoted, NumbersDiffer, is_file_in, range_alone, with_slots};
 ghost use Rattle.segment_list.specs.Slots.{Slotted, absorbed, key_of};
 
 use crate::Memory;
@@ -62,14 +62,29 @@ fn note_all<G: Drop>(
     slots: &[Slot<G>],
 ) -> Result<(), Memory>
     requires { NumbersDiffer slots.now }
-    ensures noted { OnOk result (AreNoted (get nat_cmp lows.new) slots.now) }
-    ensures others { OnOk result ((q : ℕ) → All (λ s. s.id ≢ q) slots.now → get nat_cmp lows.new q ≡ get nat_cmp lows.old q) }
+    ensures { OnOk result (HaveNoted (get nat_cmp lows.old) (get nat_cmp lows.new) slots.now) }
 {
     for i in 0..slots.len() {
         let slot = &slots[i];
         note(lows, slot.id(), slot.low())?;
     }
     Ok(())
+}
+
+// Notes where more slots begin, and answers whether all are noted then, where it is known whether all
+// others are.
+fn all_noted_with<G: Drop>(
+    lows: &mut BTreeMap<SegId, Handle>,
+    slots: &[Slot<G>],
+    all_noted: bool,
+) -> bool
+    requires { NumbersDiffer slots.now }
+    ensures { result ≡ true → HaveNoted (get nat_cmp lows.old) (get nat_cmp lows.new) slots.now × (all_noted ≡ true) }
+{
+    match note_all(lows, slots) {
+        Ok(()) => all_noted,
+        Err(_) => false,
+    }
 }
 
 // Where the segment of each number begins.
@@ -96,7 +111,8 @@ fn forget_some<G: Drop>(
     from: usize,
     to: usize,
 )
-    requires { to ≤ length slots.now }
+    requires order { from ≤ to }
+    requires within { to ≤ length slots.now }
     ensures { (q : ℕ) → ((k : ℕ) (d : Slotted G) → from ≤ k → k < to → (slice_index_or slots.now k d).id ≢ q) → get nat_cmp lows.new q ≡ get nat_cmp lows.old q }
 {
     for i in from..to {
@@ -208,11 +224,16 @@ impl<G: Drop> SegmentList<G> {
         })
     }
 
-    /// That the segments cover all handles, and that no two have the same number. It does nothing
-    /// when it runs.
+    /// That the segments cover all handles. It does nothing when it runs.
     pub fn covers(&self)
-        ensures cover { CoversFrom least_handle (map range_alone self.now) }
-        ensures numbers { NumbersDiffer self.now }
+        ensures { CoversFrom least_handle (map range_alone self.now) }
+    {
+        let _slots = &self.slots;
+    }
+
+    /// That no two segments have the same number. It does nothing when it runs.
+    pub fn numbers_differ(&self)
+        ensures { NumbersDiffer self.now }
     {
         let _slots = &self.slots;
     }
@@ -309,9 +330,7 @@ impl<G: Drop> SegmentList<G> {
         ensures { self.new ≡ with_slots place count news.items self.old }
     {
         forget_some(&mut self.lows, self.slots.as_slice(), place, place + count);
-        if note_all(&mut self.lows, news.as_slice()).is_err() {
-            self.all_noted = false;
-        }
+        self.all_noted = all_noted_with(&mut self.lows, news.as_slice(), self.all_noted);
         put_slots(&mut self.slots, place, count, news, spare);
     }
 

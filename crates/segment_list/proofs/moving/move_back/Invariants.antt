@@ -1,8 +1,8 @@
 use Rattle.std.proofs.Common.{◌≡◌, ◌≤◌, ◌+◌, ◌++◌, ℕ, drop, reverse, take}
 use Rattle.segment_list.proofs.moving.move_back.Given as goal
 
-abbrev pub invariant-loop : goal.invariant-loop
-invariant-loop g l = record {
+abbrev pub invariant-loop-to : goal.invariant-loop-to
+invariant-loop-to g l = record {
   least : l.place ≤ l.from.len;
   most : l.from.len ≤ l.fn.from.len;
   left : l.from.items ≡ take l.from.len l.fn.from.items;
@@ -11,5 +11,5 @@ invariant-loop g l = record {
   room : l.to.cap ≡ l.fn.to.cap;
 }
 
-abbrev pub decreases-loop : goal.decreases-loop
-decreases-loop g l = l.from.len
+abbrev pub decreases-loop-to : goal.decreases-loop-to
+decreases-loop-to g l = l.from.len

@@ -1,0 +1,4 @@
+pub mod Moves
+pub mod Finding
+pub mod Placed
+pub mod Covering
