@@ -114,12 +114,16 @@ module _ {G : Type 0} where
     where
       left : (k : ℕ) → k < length xs → (get_or (xs ++ ys) k d).id ≡ (get_or xs k d).id
       left k within = ap (λ (s : Slotted G). s.id) (get_or_append_left xs ys d k within)
+
       right : (k : ℕ) → length xs ≤ k → (get_or (xs ++ ys) k d).id ≡ (get_or ys (k - length xs) d).id
       right k past = (let far : length xs + (k - length xs) ≡ k = omega (arith, past) in ap (λ (n : ℕ). (get_or (xs ++ ys) n d).id) (sym far) ∙ ap (λ (s : Slotted G). s.id) (get_or-append-add xs ys (k - length xs) d))
+
       under : (m n : ℕ) → nat_lt m n ≡ true → m < n
       under m n is = grind (arith, nat_tests)
+
       over : (m n : ℕ) → nat_lt m n ≡ false → n ≤ m
       over m n is = grind (arith, nat_tests)
+
       by : (s t : Bool) → nat_lt i (length xs) ≡ s → nat_lt j (length xs) ≡ t → ⊥
       by true true p q = a i j d less (under j (length xs) q) (sym (left i (under i (length xs) p)) ∙ e ∙ left j (under j (length xs) q))
       by true false p q = apart i (j - length xs) d (under i (length xs) p) (omega (arith, lt, over j (length xs) q, length-append xs ys)) (sym (left i (under i (length xs) p)) ∙ e ∙ right j (over j (length xs) q))
@@ -147,12 +151,16 @@ module _ {G : Type 0} where
     where
       under : (m n : ℕ) → nat_lt m n ≡ true → m < n
       under m n is = grind (arith, nat_tests)
+
       over : (m n : ℕ) → nat_lt m n ≡ false → n ≤ m
       over m n is = grind (arith, nat_tests)
+
       above : (i : ℕ) (d : Slotted G) (n : ℕ) → i < length news → n < first → (get_or news i d).id ≡ n → ⊥
       above i d n lt low e = (let high = from i d lt in omega (arith, high, low, e))
+
       news_b : (i j : ℕ) (d : Slotted G) → i < length news → j < length b → (get_or news i d).id ≢ (get_or b j d).id
       news_b i j d li lj e = above i d (get_or b j d).id li ((below_parts first o b (below_parts first a (o ++ b) below).1).1 j d lj) e
+
       a_news : (i j : ℕ) (d : Slotted G) → i < length a → j < length (news ++ b) → (get_or a i d).id ≢ (get_or (news ++ b) j d).id
       a_news i j d li lj e = by (nat_lt j (length news)) refl
         where

@@ -85,14 +85,19 @@ module _ {G : Type 0} where
     where
       below : AllByRecursion (λ (t : Slotted G). t.id < first) slots
       below = all_numbers first slots can.laid
+
       one_there : (job : Job) → built.job ≡ job → segments_for job ≡ 1 → Stands slots install.place
       one_there job e n = (let many : segments_for built.job ≡ 1 = ap segments_for e ∙ n in stands_at slots install.place (omega (arith, can.within, many)))
+
       count_is : (job : Job) (n : ℕ) → built.job ≡ job → segments_for job ≡ n → install.count ≡ n
       count_is job n e f = count ∙ ap segments_for e ∙ f
+
       olds_one : (s : Slotted G) → install.count ≡ 1 → slice_get slots install.place ≡ Some s → take install.count (drop install.place slots) ≡ s ∷ []
       olds_one s n there = ap (λ (k : ℕ). take k (drop install.place slots)) n ∙ one_at slots install.place s there
+
       fits_first : (v : SegmentView G) (vs : List (SegmentView G)) (s : Slotted G) → built.views ≡ v ∷ vs → slice_get slots install.place ≡ Some s → Fits v s
       fits_first v vs s views there = (let none : install.place + 0 ≡ install.place = omega arith in can.fit 0 v s (ap (λ (ws : List (SegmentView G)). slice_get ws 0) views) (ap (slice_get slots) none ∙ there))
+
       by : (job : Job) → built.job ≡ job → AreInstalled job first files built (take install.count (drop install.place slots)) install.slots.items → CanPut install slots
       by (Compact seg) e is = (
           let at = one_there (Compact seg) e refl in

@@ -50,6 +50,7 @@ module _ {G : Type 0} where
         where
           told : fault_or (fault_at v.epoch (Some s.epoch)) (first_fault slots vs) ≡ None
           told = sym (ap (λ (o : Option (Slotted G)). fault_or (fault_at v.epoch (option_map (λ (t : Slotted G). t.epoch) o)) (first_fault slots vs)) e) ∙ none
+
           same : (t : Bool) → nat_eq s.epoch v.epoch ≡ t → IsThere slots v × (first_fault slots vs ≡ None)
           same true is = (record { slot = s; is = e; epoch = eqb-true s.epoch v.epoch is }, sym (ap (λ (b : Bool). fault_or (cond b None (Some (record { expected = v.epoch; found = Some s.epoch }))) (first_fault slots vs)) is) ∙ told)
           same false is = absurd (cc (sym (ap (λ (b : Bool). fault_or (cond b None (Some (record { expected = v.epoch; found = Some s.epoch }))) (first_fault slots vs)) is) ∙ told))
@@ -72,6 +73,7 @@ module _ {G : Type 0} where
     where
       known : IsThere slots v
       known = (first_there slots v [] (sym (ap (first_fault slots) are) ∙ fresh)).0
+
       by : (j : ℕ) → slice_get (v ∷ []) j ≡ Some w → slice_get slots (place + j) ≡ Some s → Fits w s
       by zero e f = (
           let same : v ≡ w = some_same e in
@@ -98,24 +100,34 @@ module _ {G : Type 0} where
     where
       l : IsThere slots left
       l = (first_there slots left (right ∷ []) fresh).0
+
       r : IsThere slots right
       r = (first_there slots right [] (first_there slots left (right ∷ []) fresh).1).0
+
       l_fits : Fits left l.slot
       l_fits = fit.0 l.slot l.is l.epoch
+
       r_fits : Fits right r.slot
       r_fits = fit.1.0 r.slot r.is r.epoch
+
       l_at : slice_get slots place ≡ Some l.slot
       l_at = there_at slots left place l.slot at l.is
+
       covers : CoverTo None least_handle slots
       covers = cover_from least_handle slots cover
+
       next : (t : Slotted G) × (slice_get slots (place + 1) ≡ Some t) × (t.range.low ≡ right.range.low)
       next = next_there least_handle slots place l.slot right.range.low covers l_at (ap (λ r. r.high) l_fits.range ∙ seam)
+
       found : IsFoundAt (λ (t : Slotted G). nat_eq t.id right.seg) slots r.slot
       found = found_at (λ (t : Slotted G). nat_eq t.id right.seg) slots r.slot r.is
+
       held : (k : ℕ) (s : Slotted G) → slice_get slots k ≡ Some s → s.range.low ≡ right.range.low → holds (get_or slots k l.slot).range right.range.low ≡ true
       held k s there low = ap (λ (t : Slotted G). holds t.range right.range.low) (stands slots k s l.slot there) ∙ ap (holds s.range) (sym low) ∙ held_low s.range (filled_at slots k s covers there)
+
       place_is : found.place ≡ place + 1
       place_is = one_has least_handle slots right.range.low found.place (place + 1) l.slot cover (inside slots found.place r.slot found.there) (inside slots (place + 1) next.0 next.1) (held found.place r.slot found.there (ap (λ r. r.low) r_fits.range)) (held (place + 1) next.0 next.1 next.2)
+
       same : r.slot ≡ next.0
       same = some_same (sym found.there ∙ ap (slice_get slots) place_is ∙ next.1)
 
@@ -135,14 +147,17 @@ module _ {G : Type 0} where
     where
       made : place + segments_for built.job ≤ length slots → ((k : ℕ) (w : SegmentView G) (s : Slotted G) → slice_get built.views k ≡ Some w → slice_get slots (place + k) ≡ Some s → Fits w s) → CanInstallAt first place built slots
       made within fit = record { built_is = can.built_is; within = within; number = λ s there. number_at slots (segment_of built.job) place s at there; fit = fit; laid = can.laid; free = can.free }
+
       at_seg : (job : Job) (seg : ℕ) → built.job ≡ job → segment_of job ≡ seg → position (λ (t : Slotted G). nat_eq t.id seg) slots ≡ Some place
       at_seg job seg e f = sym (ap (λ (n : ℕ). position (λ (t : Slotted G). nat_eq t.id n) slots) (ap segment_of e ∙ f)) ∙ at
+
       one : (job : Job) (v : SegmentView G) → built.job ≡ job → segment_of job ≡ v.seg → segments_for job ≡ 1 → built.views ≡ v ∷ [] → CanInstallAt first place built slots
       one job v e f count views = (
           let fresh = first_there slots v [] (sym (ap (first_fault slots) views) ∙ can.fresh) in
           let lt : place < length slots = within_at slots v.seg place fresh.0.slot (at_seg job v.seg e f) in
           let many : segments_for built.job ≡ 1 = ap segments_for e ∙ count in
           made (omega (arith, lt, many)) (fit_one slots built.views v place views can.fresh can.fit (at_seg job v.seg e f)))
+
       by : (job : Job) → built.job ≡ job → IsBuiltFor job built → CanInstallAt first place built slots
       by (Compact seg) e is = one (Compact seg) is.view e (sym is.number) refl is.views
       by (MergeDelta seg) e is = one (MergeDelta seg) is.view e (sym is.number) refl is.views

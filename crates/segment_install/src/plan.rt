@@ -176,7 +176,16 @@ fn joined<G: Drop>(
     let range = built.pieces.as_slice()[0].range;
     let Files { low, high: _ } = files;
     let part = part_of(first, low);
-    let new = joined_slot(first + 1, range, part, low_taken, left, high_taken, right, alloc)?;
+    let new = joined_slot(
+        first + 1,
+        range,
+        part,
+        low_taken,
+        left,
+        high_taken,
+        right,
+        alloc,
+    )?;
     one(new, alloc)
 }
 

@@ -9,7 +9,7 @@ use Rattle.column_file.specs.declared.file.ColumnFile.{ColumnFile}
 use Rattle.flash_types.specs.Ranges.{has_any, least_handle}
 use Rattle.flash_types.specs.declared.range.HandleRange.{HandleRange}
 use Rattle.good_replica.specs.Good.{CoversFrom}
-use Rattle.segment_list.specs.Lists.{AreNoted, AreSegments, Cover, CoverAlike, CoverTo, NumbersDiffer, range_alone, with_slots}
+use Rattle.segment_list.specs.Lists.{AreNoted, AreSegments, Cover, HaveNoted, CoverAlike, CoverTo, NumbersDiffer, range_alone, with_slots}
 use Rattle.segment_list.specs.Slots.{Slotted, clip_file, clip_files, file_speaks}
 use Rattle.segment_list.proofs.Listed.{cover_from, get_same}
 
@@ -197,3 +197,10 @@ module _ {G : Type 0} where
           others (get_or (drop (place + count) slots) k d).id (λ j e lj is. parts_differ news (drop (place + count) slots) (ends_differ (take place slots) (news ++ drop (place + count) slots) differ) j k d lj lt (ap (λ (s : Slotted G). s.id) (get_same news j d e lj) ∙ is))
           ∙ forgot (get_or (drop (place + count) slots) k d).id (λ j e ge lj is. olds j (place + count + k) d (omega (arith, lj)) there (ap (λ (s : Slotted G). s.id) (get_same slots j d e (omega (arith, lj, within))) ∙ is ∙ ap (λ (s : Slotted G). s.id) same))
           ∙ ap (λ (s : Slotted G). before s.id) same ∙ noted (place + count + k) d there ∙ ap (λ (s : Slotted G). Some s.range.low) (sym same))
+
+  pub replaced_segments : (before between after : ℕ → Option ℤ) (was is : Bool) (place count : ℕ) (news slots : List (Slotted G)) → 0 < count → place + count ≤ length slots → CoverAlike (take count (drop place slots)) news → NumbersDiffer (with_slots place count news slots) → AreSegments before was slots → ((q : ℕ) → ((k : ℕ) (d : Slotted G) → place ≤ k → k < place + count → (get_or slots k d).id ≢ q) → between q ≡ before q) → (is ≡ true → HaveNoted between after news × (was ≡ true)) → AreSegments after is (with_slots place count news slots)
+  replaced_segments before between after was is place count news slots some within alike differ are forgot noted = record {
+    cover = still_cover place count news slots some within alike are.cover;
+    numbers = differ;
+    found = λ yes. let both = noted yes in still_found place count news slots before between after within are.numbers differ (are.found both.1) forgot both.0.noted both.0.others;
+  }

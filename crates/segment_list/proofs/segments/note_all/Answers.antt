@@ -21,3 +21,9 @@ loop-i-preserved g c =
           still_noted (get nat_cmp c.loop-i.lows) (get nat_cmp c.note.new.lows) c.index-slots-i.result (Some c.index-slots-i.result.range.low) q (λ e. none c.loop-i.i c.index-slots-i.result (omega arith) (ap (λ s. s.id) (sym c.index-slots-i.is) ∙ e)) (put q)
           ∙ c.loop-i.invariant.others q (λ k d lt. none k d (omega (arith, lt)));
     }
+
+pub returns : goal.returns
+returns g c = record {
+  noted = λ k d lt. c.loop-i.invariant.noted k d (omega (arith, lt, c.loop-i-test.false));
+  others = λ q none. c.loop-i.invariant.others q (λ k d lt. none k d (omega (arith, lt, c.loop-i.auto.i-end)));
+}

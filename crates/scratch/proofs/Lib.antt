@@ -1,4 +1,0 @@
-pub mod Moves
-pub mod Finding
-pub mod Placed
-pub mod Covering
