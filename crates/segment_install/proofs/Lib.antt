@@ -7,3 +7,6 @@ pub mod Making
 pub mod Orders
 pub mod Putting
 pub mod Running
+pub mod Sides
+pub mod Goods
+pub mod Whole

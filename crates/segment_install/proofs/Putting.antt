@@ -15,7 +15,7 @@ use Rattle.segment_work.specs.Begun.{segments_for}
 use Rattle.segment_install.specs.Plans.{AreHalves, AreInstalled, CanInstall, CanInstallAt, CanPut, IsCompacted, IsJoined, IsLaid, IsMerged}
 use Rattle.segment_install.specs.Slots.{Fits}
 use Rattle.segment_install.specs.declared.part.Files.{Files}
-use Rattle.segment_install.specs.declared.plan.Install.{Install}
+use Rattle.segment_install.specs.declared.planned.Install.{Install}
 use Rattle.segment_install.proofs.Alike.{alike_halves, alike_joined, alike_one}
 use Rattle.segment_install.proofs.Placed.{inside, new_differ, one_at, one_differs, two_at}
 use Rattle.segment_install.proofs.Ready.{all_numbers}
@@ -26,7 +26,7 @@ module _ {G : Type 0} where
     pub slot : Slotted G
     pub there : slice_get slots place ≡ Some slot
 
-  stands_at : (slots : List (Slotted G)) (place : ℕ) → place < length slots → Stands slots place
+  pub stands_at : (slots : List (Slotted G)) (place : ℕ) → place < length slots → Stands slots place
   stands_at [] place lt = absurd (omega (arith, lt))
   stands_at (s ∷ slots) zero lt = record { slot = s; there = refl }
   stands_at (s ∷ slots) (suc place) lt = (let rest = stands_at slots place (omega (arith, lt)) in record { slot = rest.slot; there = rest.there })

@@ -25,7 +25,7 @@ use Rattle.segment_install.proofs.Placed.{IsFoundAt, found_at, found_there, insi
 some_same : {X : Type 0} {a b : X} → Some a ≡ Some b → a ≡ b
 some_same e = cc e
 
-at_place : {X : Type 0} (P : X → Type 0) (xs : List X) (k : ℕ) (x : X) → AllByRecursion P xs → slice_get xs k ≡ Some x → P x
+pub at_place : {X : Type 0} (P : X → Type 0) (xs : List X) (k : ℕ) (x : X) → AllByRecursion P xs → slice_get xs k ≡ Some x → P x
 at_place P [] k x all e = absurd (cc e)
 at_place P (y ∷ ys) zero x all e = subst P (some_same e) all.0
 at_place P (y ∷ ys) (suc k) x all e = at_place P ys k x all.1 e

@@ -3,6 +3,7 @@ use Rattle.std.proofs.Common.{◌≡◌, ◌∙◌, refl, sym, ap, subst, ℕ, z
 use Rattle.std.specs.Prelude.{slice_get, slice_range}
 use Rattle.std.specs.List.{AllByRecursion, flat_map}
 use Rattle.std.proofs.lemmas.Bool.Decides.{nat_tests}
+use Rattle.std.proofs.Math.Seq.{drop-append_seam}
 use Rattle.std.proofs.lemmas.List.{drop-append-le, length-append, length-drop, take-append-le}
 use Rattle.column_block.specs.declared.cell.Version.{Version}
 use Rattle.column_file.specs.declared.file.ColumnFile.{ColumnFile}
@@ -32,7 +33,7 @@ tiny_within files from to k all low high within =
     ap tiny_in (sym (ap (slice_get files) far) ∙ sym (behind from files (k - from)))
     ∙ tiny_front (drop from files) (to - from) (k - from) all (omega (arith, low, high)) (omega (arith, within, length-drop from files))
 
-no_tiny_front : (files : List ColumnFile) (k : ℕ) → AllByRecursion (λ (f : ColumnFile). is_tiny f ≡ false) files → tiny_at_place files k ≡ false
+pub no_tiny_front : (files : List ColumnFile) (k : ℕ) → AllByRecursion (λ (f : ColumnFile). is_tiny f ≡ false) files → tiny_at_place files k ≡ false
 no_tiny_front [] k all = refl
 no_tiny_front (f ∷ fs) zero all = all.0
 no_tiny_front (f ∷ fs) (suc k) all = no_tiny_front fs k all.1
@@ -42,6 +43,11 @@ unfolding tiny_in
 no_tiny_behind files named k all le =
     let far : named + (k - named) ≡ k = omega (arith, le) in
     ap tiny_in (sym (ap (slice_get files) far) ∙ sym (behind named files (k - named))) ∙ no_tiny_front (drop named files) (k - named) all
+
+get_front : (some rest : List ColumnFile) (k : ℕ) → k < length some → slice_get (some ++ rest) k ≡ slice_get some k
+get_front [] rest k lt = absurd (omega (arith, lt))
+get_front (f ∷ fs) rest zero lt = refl
+get_front (f ∷ fs) rest (suc k) lt = get_front fs rest k (omega (arith, lt))
 
 under : (m n : ℕ) → nat_lt m n ≡ true → m < n
 under m n is = grind (arith, nat_tests)
@@ -120,3 +126,25 @@ run_tinies files some rest from to are run =
     let many : suc from < to = run.many in
     let slice : slice_range files from to ≡ slice_range some from to = ap (λ (fs : List ColumnFile). slice_range fs from to) are ∙ same_slice some rest from to (omega (arith, many)) run.within in
     (subst (AllByRecursion (λ (f : ColumnFile). is_tiny f ≡ true)) (sym slice) run.tinies, omega (arith, run.within, ap length are, length-append some rest))
+
+-- the first run of the first files is that of all, where no tiny file comes behind them
+pub run_of_front : (some rest : List ColumnFile) (from to : ℕ) → IsFirstRun some from to → AllByRecursion (λ (f : ColumnFile). is_tiny f ≡ false) rest → IsFirstRun (some ++ rest) from to
+unfolding tiny_in
+run_of_front some rest from to run none = record {
+  many = run.many;
+  within = omega (arith, run.within, length-append some rest);
+  tinies = subst (AllByRecursion (λ (f : ColumnFile). is_tiny f ≡ true)) (sym (same_slice some rest from to (let many : suc from < to = run.many in omega (arith, many)) run.within)) run.tinies;
+  ends = by (nat_lt to (length some)) refl;
+  first = λ k less. (let many : suc from < to = run.many in
+      ap (λ (t : Bool). t && tiny_at_place (some ++ rest) (suc k)) (front k (omega (arith, less, many, run.within)))
+      ∙ ap (λ (t : Bool). tiny_at_place some k && t) (front (suc k) (omega (arith, less, many, run.within)))
+      ∙ run.first k less);
+}
+  where
+    front : (k : ℕ) → k < length some → tiny_at_place (some ++ rest) k ≡ tiny_at_place some k
+    front k lt = ap tiny_in (get_front some rest k lt)
+    by : (t : Bool) → nat_lt to (length some) ≡ t → tiny_at_place (some ++ rest) to ≡ false
+    by true e = front to (under to (length some) e) ∙ run.ends
+    by false e = (
+        let at : to ≡ length some = omega (arith, over to (length some) e, run.within) in
+        no_tiny_behind (some ++ rest) (length some) to (subst (AllByRecursion (λ (f : ColumnFile). is_tiny f ≡ false)) (sym (drop-append_seam some rest)) none) (omega (arith, at)))

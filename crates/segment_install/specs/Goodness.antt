@@ -12,18 +12,19 @@ use Rattle.delta_layer.specs.declared.built.Job.{Job}
 use Rattle.delta_layer.specs.declared.built.Job.TheVariants.{Compact, MergeDelta, Split, Merge}
 use Rattle.delta_layer.specs.declared.built.Piece.{Piece}
 use Rattle.delta_layer.specs.declared.view.SegmentView.{SegmentView}
-use Rattle.good_replica.specs.Good.{AreGood}
+use Rattle.flash_types.specs.Ranges.{least_handle}
+use Rattle.good_replica.specs.Good.{AreGood, CoversFrom}
 use Rattle.prefix_laws.specs.Prefixes.{ArePrefixesGood, AreSteps}
 use Rattle.prefix_laws.specs.Tagged.{TaggedSegment, content}
 use Rattle.segment_laws.specs.Jobs.{IsBuilt}
 use Rattle.segment_list.specs.Laws.{told_by}
-use Rattle.segment_list.specs.Lists.{with_slots}
+use Rattle.segment_list.specs.Lists.{range_alone, with_slots}
 use Rattle.segment_list.specs.Order.{IsSlot}
 use Rattle.segment_list.specs.Slots.{Slotted}
 use Rattle.stable_file.specs.declared.file.StableFile.{StableFile}
 use Rattle.segment_install.specs.Plans.{CanInstall, IsPlan}
 use Rattle.segment_install.specs.declared.part.Files.{Files}
-use Rattle.segment_install.specs.declared.plan.Install.{Install}
+use Rattle.segment_install.specs.declared.planned.Install.{Install}
 
 module _ {G : Type 0} where
   -- the open files have what the pieces have
@@ -33,12 +34,13 @@ module _ {G : Type 0} where
   FilesHave read files (Split seg) pieces = AreTwo (λ (low high : Piece). (read files.low ≡ low.versions) × (read files.high ≡ high.versions)) pieces
   FilesHave read files (Merge seg) pieces = IsOne (λ (piece : Piece). read files.low ≡ piece.versions) pieces
 
--- An install of what was built where a grip's bytes are known: the slots are in order, with `committed` of the `last` entries named; the stable parts of the views read as `read` says; the safe point is at least the one that was built with; and the open files have what the pieces have.
+-- An install of what was built where a grip's bytes are known: the slots cover the handles and are in order, with `committed` of the `last` entries named; the stable parts of the views read as `read` says; the safe point is at least the one that was built with; and the open files have what the pieces have.
 pub record IsInstall {G : Type 0} (tells : Type 0) (bytes : G → List ℕ) (columns : List Column) (rows : ℕ) (read : Option (StableFile G) → List Version) (safe committed last first : ℕ) (files : Files G) (built : Built G) (slots : List (Slotted G)) (install : Install G) : Type 0 where
   pub known : tells
   pub built_is : IsBuilt tells bytes columns rows built
   pub can : CanInstall first built slots
   pub plan : IsPlan first files built slots install
+  pub cover : CoversFrom least_handle (map range_alone slots)
   pub order : AllByRecursion (IsSlot committed last) slots
   pub views : AllByRecursion (λ (v : SegmentView G). stable_in bytes v.stable ≡ Ok (read v.stable)) built.views
   pub safe_point : built.safe_point ≤ safe
@@ -63,5 +65,5 @@ InstallsKeepAll {G} tells bytes = (log : Log) → IsLawful log → (A : ℕ → 
     AreGood log A m safe (map (content last) (map (told_by read) (slots_after install slots)))
 
 -- Slots that are in order give way to slots that are.
-abbrev pub InstallsKeepOrder : {G : Type 0} → Type 0 → (G → List ℕ) → Type 0
-InstallsKeepOrder {G} tells bytes = (committed last first : ℕ) (files : Files G) (built : Built G) (slots : List (Slotted G)) (install : Install G) → CanInstall first built slots → IsPlan first files built slots install → AllByRecursion (IsSlot committed last) slots → AllByRecursion (IsSlot committed last) (slots_after install slots)
+abbrev pub InstallsKeepOrder : Type 0 → Type 0
+InstallsKeepOrder G = (committed last first : ℕ) (files : Files G) (built : Built G) (slots : List (Slotted G)) (install : Install G) → CanInstall first built slots → CoversFrom least_handle (map range_alone slots) → IsPlan first files built slots install → AllByRecursion (IsSlot committed last) slots → AllByRecursion (IsSlot committed last) (slots_after install slots)

@@ -22,7 +22,7 @@ use Rattle.segment_install.specs.Slots.{Fits, compacted_slot, half_slot, joined_
 use Rattle.segment_install.specs.Stale.{FitsIn, first_fault}
 use Rattle.segment_install.specs.declared.part.Files.{Files}
 use Rattle.segment_install.specs.declared.part.Part.{Part}
-use Rattle.segment_install.specs.declared.plan.Install.{Install}
+use Rattle.segment_install.specs.declared.planned.Install.{Install}
 
 -- ---- numbers
 

@@ -5,17 +5,17 @@
 mod laws;
 mod made;
 mod part;
-mod plan;
+mod planned;
 mod rest;
-mod stale;
+mod staleness;
 
 pub use laws::{
     builds_can_be_installed, compacted_slots_say_the_run, half_slots_say_their_part,
     joined_slots_say_both, merged_slots_say_the_rest,
 };
 pub use part::{Files, Part};
-pub use plan::{Install, numbers_for, plan, put};
-pub use stale::stale;
+pub use planned::{Install, numbers_for, plan, put};
+pub use staleness::stale;
 
 /// Memory ran out.
 #[derive(Clone, Copy, Debug, PartialEq, Eq)]

@@ -68,6 +68,19 @@ fn compacted(
     }
 }
 
+// One more owner of a slot's stable part.
+fn shared_stable<G: Drop>(slot: &Slot<G>) -> Result<Option<StableFile<G>>, Memory>
+    ensures { IfOk result (λ stable. stable ≡ slot.now.stable) }
+{
+    match slot.stable() {
+        None => Ok(None),
+        Some(file) => match file.share() {
+            Ok(stable) => Ok(Some(stable)),
+            Err(_) => Err(Memory),
+        },
+    }
+}
+
 // The slot of a segment with these tags and this stable file's number.
 fn slot_of<G: Drop>(
     segment: Segment<G>,
@@ -100,9 +113,7 @@ pub fn compacted_slot<G: Drop>(
 {
     let block = whole(versions, alloc)?;
     let layer = compacted(slot.layer(), from, to, ColumnFile::Tiny { file, block })?;
-    let Ok(segment) = slot.segment().with_layer(layer) else {
-        return Err(Memory);
-    };
+    let segment = slot.segment().successor(layer, shared_stable(slot)?);
     let named = slot.named() - (to - from) + 1;
     let tags = copied(slot.tags(), alloc)?;
     slot_of(segment, slot.stable_number(), named, tags)
