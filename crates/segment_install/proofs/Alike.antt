@@ -25,9 +25,11 @@ module _ {G : Type 0} where
     ap (λ (r : HandleRange). r.low) low ∙ sym (ap (λ (r : HandleRange). r.low) is) ∙ c.0,
     ap (λ (r : HandleRange). r.high) low ∙ ap (λ (z : ℤ). Some z) (sym (ap (λ (r : HandleRange). r.low) high)),
     ap has_any low ∙ cut.above,
-    refl,
-    ap (λ (r : HandleRange). r.high) high ∙ sym (ap (λ (r : HandleRange). r.high) is) ∙ c.1,
-    ap has_any high ∙ (both_true (int_le whole.low at) (is_below at whole.high) cut.within).1,
+    (
+      refl,
+      ap (λ (r : HandleRange). r.high) high ∙ sym (ap (λ (r : HandleRange). r.high) is) ∙ c.1,
+      ap has_any high ∙ (both_true (int_le whole.low at) (is_below at whole.high) cut.within).1,
+    ),
   )
 
   pub alike_joined : (s t x : Slotted G) (left right : HandleRange) → s.range ≡ left → t.range ≡ right → Touch left right → x.range ≡ joined left right → CoverAlike (s ∷ t ∷ []) (x ∷ [])

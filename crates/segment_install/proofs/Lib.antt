@@ -10,3 +10,4 @@ pub mod Running
 pub mod Sides
 pub mod Goods
 pub mod Whole
+pub mod News

@@ -49,15 +49,15 @@ pub all_imply : {X : Type 0} (P Q : X → Type 0) → ((x : X) → P x → Q x) 
 all_imply P Q f [] all = tt
 all_imply P Q f (x ∷ xs) all = (f x all.0, all_imply P Q f xs all.1)
 
+none_taken : {X : Type 0} (k : ℕ) → ◌≡◌ {A = List X} [] (take k [])
+none_taken zero = refl
+none_taken (suc k) = refl
+
 drop_take : {X : Type 0} (n m : ℕ) (xs : List X) → drop n (take m xs) ≡ take (m - n) (drop n xs)
-drop_take zero m xs = refl
-drop_take (suc n) zero xs = refl
-drop_take (suc n) (suc m) [] = none (m - n)
-  where
-    none : {X : Type 0} (k : ℕ) → ◌≡◌ {A = List X} [] (take k [])
-    none zero = refl
-    none (suc k) = refl
-drop_take (suc n) (suc m) (x ∷ xs) = drop_take n m xs
+drop_take zero m xs = let same : m ≡ m - 0 = omega arith in ap (λ (k : ℕ). take k xs) same
+drop_take (suc n) zero xs = let same : 0 ≡ 0 - suc n = omega arith in ap (λ (k : ℕ). take k (drop (suc n) xs)) same
+drop_take (suc n) (suc m) [] = none_taken (suc m - suc n)
+drop_take (suc n) (suc m) (x ∷ xs) = let same : m - n ≡ suc m - suc n = omega arith in drop_take n m xs ∙ ap (λ (k : ℕ). take k (drop n xs)) same
 
 -- ---- files with tags, in pairs
 
@@ -101,31 +101,7 @@ pub record IsRest (committed last : ℕ) (range : HandleRange) (rest : Rest) : T
   pub behind : AllByRecursion (λ (q : ℕ × ColumnFile). is_tiny q.1 ≡ false) rest.others
   pub rows : AllByRecursion (λ (q : ℕ × ColumnFile). LiesIn range q.1) rest.others
 
-module _ {G : Type 0} (committed last : ℕ) where
-  pub new_in_order : (id : ℕ) (range : HandleRange) (part : Option (Part G)) (rest : Rest) → IsRest committed last range rest → IsSlot committed last (new_slot id range part rest)
-  new_in_order id range part rest is = record {
-    tagged = length-append rest.named (map file_in rest.others) ∙ ap (λ (n : ℕ). length rest.named + n) (length-map rest.others file_in ∙ sym (length-map rest.others tag_in));
-    tags = all_map (λ (t : ℕ). (committed < t) × (t ≤ last)) tag_in rest.others is.tags;
-    named = subst (AllByRecursion (λ (f : ColumnFile). is_mem f ≡ false)) (sym (take-append_seam rest.named (map file_in rest.others))) is.named;
-    behind = subst (AllByRecursion (λ (f : ColumnFile). is_tiny f ≡ false)) (sym (drop-append_seam rest.named (map file_in rest.others))) (all_map (λ (f : ColumnFile). is_tiny f ≡ false) file_in rest.others is.behind);
-    rows = all_both (LiesIn range) rest.named (map file_in rest.others) is.named_rows (all_map (LiesIn range) file_in rest.others is.rows);
-  }
-
-  -- what came behind the first files of a slot
-  pub rest_is : (n : ℕ) (s : Slotted G) → IsSlot committed last s → IsRest committed last s.range (rest_of n s)
-  rest_is n s is = record {
-    named = subst (AllByRecursion (λ (f : ColumnFile). is_mem f ≡ false)) (drop_take n s.named s.files) (all_drop (λ (f : ColumnFile). is_mem f ≡ false) n (take s.named s.files) is.named);
-    named_rows = all_take (LiesIn s.range) (s.named - n) (drop n s.files) (all_drop (LiesIn s.range) n s.files is.rows);
-    tags = pairs_tags (λ (t : ℕ). (committed < t) × (t ≤ last)) (drop (n - s.named) s.tags) (drop (s.named - n) (drop n s.files)) (all_drop (λ (t : ℕ). (committed < t) × (t ≤ last)) (n - s.named) s.tags is.tags);
-    behind = pairs_files (λ (f : ColumnFile). is_tiny f ≡ false) (drop (n - s.named) s.tags) (drop (s.named - n) (drop n s.files)) (behind_is n s is);
-    rows = pairs_files (LiesIn s.range) (drop (n - s.named) s.tags) (drop (s.named - n) (drop n s.files)) (all_drop (LiesIn s.range) (s.named - n) (drop n s.files) (all_drop (LiesIn s.range) n s.files is.rows));
-  }
-    where
-      behind_is : (n : ℕ) (s : Slotted G) → IsSlot committed last s → AllByRecursion (λ (f : ColumnFile). is_tiny f ≡ false) (drop (s.named - n) (drop n s.files))
-      behind_is n s is = (
-          let same : s.named + (n - s.named) ≡ n + (s.named - n) = omega arith in
-          subst (AllByRecursion (λ (f : ColumnFile). is_tiny f ≡ false)) (drop_again s.named (n - s.named) s.files ∙ ap (λ (k : ℕ). drop k s.files) same ∙ sym (drop_again n (s.named - n) s.files)) (all_drop (λ (f : ColumnFile). is_tiny f ≡ false) (n - s.named) (drop s.named s.files) is.behind))
-
+module _ (committed last : ℕ) where
   pub clipped_is : (range wide : HandleRange) (rest : Rest) → IsRest committed last wide rest → IsRest committed last range (clip_rest range rest)
   clipped_is range wide rest is = record {
     named = all_filter (λ (f : ColumnFile). is_mem f ≡ false) file_speaks (map (clip_file range) rest.named) (all_map (λ (f : ColumnFile). is_mem f ≡ false) (clip_file range) rest.named (all_imply (λ (f : ColumnFile). is_mem f ≡ false) (λ (f : ColumnFile). is_mem (clip_file range f) ≡ false) (λ f e. mem_same range f ∙ e) rest.named is.named));
@@ -159,6 +135,31 @@ module _ {G : Type 0} (committed last : ℕ) where
       lies (Tiny file block) e = all_imply (λ (v : Version). is_in range v ≡ true) (λ (v : Version). is_in wide v ≡ true) within block e
       lies (DeleteRange other) e = tt
 
+module _ {G : Type 0} (committed last : ℕ) where
+  pub new_in_order : (id : ℕ) (range : HandleRange) (part : Option (Part G)) (rest : Rest) → IsRest committed last range rest → IsSlot committed last (new_slot id range part rest)
+  new_in_order id range part rest is = record {
+    tagged = length-append rest.named (map file_in rest.others) ∙ ap (λ (n : ℕ). length rest.named + n) (length-map rest.others file_in ∙ sym (length-map rest.others tag_in));
+    tags = all_map (λ (t : ℕ). (committed < t) × (t ≤ last)) tag_in rest.others is.tags;
+    named = subst (AllByRecursion (λ (f : ColumnFile). is_mem f ≡ false)) (sym (take-append_seam rest.named (map file_in rest.others))) is.named;
+    behind = subst (AllByRecursion (λ (f : ColumnFile). is_tiny f ≡ false)) (sym (drop-append_seam rest.named (map file_in rest.others))) (all_map (λ (f : ColumnFile). is_tiny f ≡ false) file_in rest.others is.behind);
+    rows = all_both (LiesIn range) rest.named (map file_in rest.others) is.named_rows (all_map (LiesIn range) file_in rest.others is.rows);
+  }
+
+  -- what came behind the first files of a slot
+  pub rest_is : (n : ℕ) (s : Slotted G) → IsSlot committed last s → IsRest committed last s.range (rest_of n s)
+  rest_is n s is = record {
+    named = subst (AllByRecursion (λ (f : ColumnFile). is_mem f ≡ false)) (drop_take n s.named s.files) (all_drop (λ (f : ColumnFile). is_mem f ≡ false) n (take s.named s.files) is.named);
+    named_rows = all_take (LiesIn s.range) (s.named - n) (drop n s.files) (all_drop (LiesIn s.range) n s.files is.rows);
+    tags = pairs_tags (λ (t : ℕ). (committed < t) × (t ≤ last)) (drop (n - s.named) s.tags) (drop (s.named - n) (drop n s.files)) (all_drop (λ (t : ℕ). (committed < t) × (t ≤ last)) (n - s.named) s.tags is.tags);
+    behind = pairs_files (λ (f : ColumnFile). is_tiny f ≡ false) (drop (n - s.named) s.tags) (drop (s.named - n) (drop n s.files)) (behind_is n s is);
+    rows = pairs_files (LiesIn s.range) (drop (n - s.named) s.tags) (drop (s.named - n) (drop n s.files)) (all_drop (LiesIn s.range) (s.named - n) (drop n s.files) (all_drop (LiesIn s.range) n s.files is.rows));
+  }
+    where
+      behind_is : (n : ℕ) (s : Slotted G) → IsSlot committed last s → AllByRecursion (λ (f : ColumnFile). is_tiny f ≡ false) (drop (s.named - n) (drop n s.files))
+      behind_is n s is = (
+          let same : s.named + (n - s.named) ≡ n + (s.named - n) = omega arith in
+          subst (AllByRecursion (λ (f : ColumnFile). is_tiny f ≡ false)) (drop_again s.named (n - s.named) s.files ∙ ap (λ (k : ℕ). drop k s.files) same ∙ sym (drop_again n (s.named - n) s.files)) (all_drop (λ (f : ColumnFile). is_tiny f ≡ false) (n - s.named) (drop s.named s.files) is.behind))
+
   pub merged_in_order : (n : ℕ) (part : Option (Part G)) (s : Slotted G) → n ≤ length s.files → IsSlot committed last s → IsSlot committed last (merged_slot n part s)
   merged_in_order n part s within is = record {
     tagged = omega (arith, is.tagged, within, length-drop n s.files, length-drop (n - s.named) s.tags);
@@ -171,16 +172,16 @@ module _ {G : Type 0} (committed last : ℕ) where
   }
 
   pub half_in_order : (id : ℕ) (range : HandleRange) (part : Option (Part G)) (n : ℕ) (s : Slotted G) → IsSlot committed last s → IsSlot committed last (half_slot id range part n s)
-  half_in_order id range part n s is = new_in_order id range part (clip_rest range (rest_of n s)) (clipped_is range s.range (rest_of n s) (rest_is n s is))
+  half_in_order id range part n s is = new_in_order id range part (clip_rest range (rest_of n s)) (clipped_is committed last range s.range (rest_of n s) (rest_is n s is))
 
   pub joined_in_order : (id : ℕ) (range : HandleRange) (part : Option (Part G)) (n : ℕ) (l : Slotted G) (m : ℕ) (r : Slotted G) → ((v : Version) → is_in l.range v ≡ true → is_in range v ≡ true) → ((v : Version) → is_in r.range v ≡ true → is_in range v ≡ true) → IsSlot committed last l → IsSlot committed last r → IsSlot committed last (joined_slot id range part n l m r)
   joined_in_order id range part n l m r left right a b =
       let x : Rest = clip_rest l.range (rest_of n l) in
       let y : Rest = clip_rest r.range (rest_of m r) in
       new_in_order id range part (both_rests x y)
-      (both_are range x y
-      (wider_is l.range range x left (clipped_is l.range l.range (rest_of n l) (rest_is n l a)))
-      (wider_is r.range range y right (clipped_is r.range r.range (rest_of m r) (rest_is m r b))))
+      (both_are committed last range x y
+      (wider_is committed last l.range range x left (clipped_is committed last l.range l.range (rest_of n l) (rest_is n l a)))
+      (wider_is committed last r.range range y right (clipped_is committed last r.range r.range (rest_of m r) (rest_is m r b))))
 
   pub compacted_in_order : (from to number : ℕ) (versions : List Version) (s : Slotted G) → from ≤ to → to ≤ s.named → AllByRecursion (λ (v : Version). is_in s.range v ≡ true) versions → IsSlot committed last s → IsSlot committed last (compacted_slot from to (Tiny number versions) s)
   compacted_in_order from to number versions s order within lie is =

@@ -12,8 +12,9 @@ use Rattle.delta_layer.specs.declared.view.SegmentView.{SegmentView}
 use Rattle.segment_list.specs.Lists.{CoverAlike, NumbersDiffer, with_slots}
 use Rattle.segment_list.specs.Slots.{Slotted}
 use Rattle.segment_work.specs.Begun.{segments_for}
-use Rattle.segment_install.specs.Plans.{AreHalves, AreInstalled, CanInstall, CanInstallAt, CanPut, IsCompacted, IsJoined, IsLaid, IsMerged}
-use Rattle.segment_install.specs.Slots.{Fits}
+use Rattle.segment_install.specs.Plans.{AreHalves, AreInstalled, CanInstall, CanInstallAt, CanPut, IsCompacted, IsJoined, IsLaid, IsMerged, part_of}
+use Rattle.column_file.specs.declared.file.ColumnFile.TheVariants.{Tiny}
+use Rattle.segment_install.specs.Slots.{Fits, compacted_slot, half_slot, joined_slot, merged_slot}
 use Rattle.segment_install.specs.declared.part.Files.{Files}
 use Rattle.segment_install.specs.declared.planned.Install.{Install}
 use Rattle.segment_install.proofs.Alike.{alike_halves, alike_joined, alike_one}
@@ -103,18 +104,18 @@ module _ {G : Type 0} where
           let at = one_there (Compact seg) e refl in
           let n : install.count ≡ 1 = count_is (Compact seg) 1 e refl in
           let new = subst (IsOne (λ (old : Slotted G). IsCompacted first built old install.slots.items)) (olds_one at.slot n at.there) is in
-          one_put install slots at.slot _ n at.there new.are refl refl differ empty room)
+          one_put install slots at.slot (compacted_slot new.of.from new.of.to (Tiny first new.of.piece.versions) at.slot) n at.there new.are refl refl differ empty room)
       by (MergeDelta seg) e is = (
           let at = one_there (MergeDelta seg) e refl in
           let n : install.count ≡ 1 = count_is (MergeDelta seg) 1 e refl in
           let new = subst (IsOne (λ (old : Slotted G). IsMerged first files built old install.slots.items)) (olds_one at.slot n at.there) is in
-          one_put install slots at.slot _ n at.there new.are refl refl differ empty room)
+          one_put install slots at.slot (merged_slot (length new.of.view.delta) (part_of first files.low) at.slot) n at.there new.are refl refl differ empty room)
       by (Split seg) e is = (
           let at = one_there (Split seg) e refl in
           let n : install.count ≡ 1 = count_is (Split seg) 1 e refl in
           let new = subst (IsOne (λ (old : Slotted G). AreHalves first files built old install.slots.items)) (olds_one at.slot n at.there) is in
-          halves_put first install slots at.slot _ _ n at.there new.are
-          (alike_halves at.slot _ _ new.of.view.range new.of.at (fits_first new.of.view [] at.slot new.of.views at.there).range new.of.cut new.of.low_range new.of.high_range)
+          halves_put first install slots at.slot (half_slot (first + 2) new.of.low.range (part_of first files.low) (length new.of.view.delta) at.slot) (half_slot (first + 3) new.of.high.range (part_of (first + 1) files.high) (length new.of.view.delta) at.slot) n at.there new.are
+          (alike_halves at.slot (half_slot (first + 2) new.of.low.range (part_of first files.low) (length new.of.view.delta) at.slot) (half_slot (first + 3) new.of.high.range (part_of (first + 1) files.high) (length new.of.view.delta) at.slot) new.of.view.range new.of.at (fits_first new.of.view [] at.slot new.of.views at.there).range new.of.cut new.of.low_range new.of.high_range)
           (omega arith) (omega arith) below differ empty room)
       by (Merge seg) e is = (
           let n : install.count ≡ 2 = count_is (Merge seg) 2 e refl in
@@ -122,7 +123,7 @@ module _ {G : Type 0} where
           let low = stands_at slots install.place (omega (arith, can.within, many)) in
           let high = stands_at slots (install.place + 1) (omega (arith, can.within, many)) in
           let new = subst (AreTwo (λ (left right : Slotted G). IsJoined first files built left right install.slots.items)) (ap (λ (k : ℕ). take k (drop install.place slots)) n ∙ two_at slots install.place low.slot high.slot low.there high.there) is in
-          joined_put first install slots low.slot high.slot _ n low.there high.there new.are
-          (alike_joined low.slot high.slot _ new.of.left.range new.of.right.range (fits_first new.of.left (new.of.right ∷ []) low.slot new.of.views low.there).range
+          joined_put first install slots low.slot high.slot (joined_slot (first + 1) new.of.piece.range (part_of first files.low) (length new.of.left.delta) low.slot (length new.of.right.delta) high.slot) n low.there high.there new.are
+          (alike_joined low.slot high.slot (joined_slot (first + 1) new.of.piece.range (part_of first files.low) (length new.of.left.delta) low.slot (length new.of.right.delta) high.slot) new.of.left.range new.of.right.range (fits_first new.of.left (new.of.right ∷ []) low.slot new.of.views low.there).range
           (can.fit 1 new.of.right high.slot (ap (λ (ws : List (SegmentView G)). slice_get ws 1) new.of.views) high.there).range new.of.touch new.of.range)
           (omega arith) below differ empty room)

@@ -1,6 +1,6 @@
 -- What was built can be installed where its job's segment stands.
 use Rattle.std.proofs.Common.{◌≡◌, ◌≢◌, ◌∙◌, refl, sym, ap, subst, ℕ, zero, suc, ◌+◌, ◌<◌, ◌≤◌, ℤ, Bool, true, false, true≢false, cond, nat_eq, Option, Some, None, List, [], ◌∷◌, length, map, get_or, arith}
-use Rattle.std.specs.Prelude.{find, option_map, position, slice_get}
+use Rattle.std.specs.Prelude.{find, is_some, option_map, position, slice_get}
 use Rattle.std.specs.List.{AllByRecursion}
 use Rattle.std.proofs.lemmas.Bool.{eqb-true, eq-eqb}
 use Rattle.std.proofs.lemmas.List.Quantifiers.{position-Some}
@@ -30,15 +30,15 @@ at_place P [] k x all e = absurd (cc e)
 at_place P (y ∷ ys) zero x all e = subst P (some_same e) all.0
 at_place P (y ∷ ys) (suc k) x all e = at_place P ys k x all.1 e
 
+fault_or : Option Stale → Option Stale → Option Stale
+fault_or fault rest = elim fault [ Some fault ↦ Some fault | None ↦ rest ]
+
 module _ {G : Type 0} where
   -- a view whose segment is there, at its epoch
   pub record IsThere (slots : List (Slotted G)) (v : SegmentView G) : Type 0 where
     pub slot : Slotted G
     pub is : slot_of v.seg slots ≡ Some slot
     pub epoch : slot.epoch ≡ v.epoch
-
-  fault_or : Option Stale → Option Stale → Option Stale
-  fault_or fault rest = elim fault [ Some fault ↦ Some fault | None ↦ rest ]
 
   pub first_there : (slots : List (Slotted G)) (v : SegmentView G) (vs : List (SegmentView G)) → first_fault slots (v ∷ vs) ≡ None → IsThere slots v × (first_fault slots vs ≡ None)
   unfolding fault_or
@@ -171,3 +171,14 @@ module _ {G : Type 0} where
   pub all_numbers : (first : ℕ) (slots : List (Slotted G)) → AllByRecursion (IsLaid first) slots → AllByRecursion (λ (t : Slotted G). t.id < first) slots
   all_numbers first [] all = tt
   all_numbers first (s ∷ slots) all = (all.0.number, all_numbers first slots all.1)
+
+  -- a fault of the first view, or the faults of the others
+  pub fault_here : (slots : List (Slotted G)) (v : SegmentView G) (vs : List (SegmentView G)) (o : Option Stale) → fault_at v.epoch (epoch_of v.seg slots) ≡ o → is_some o ≡ true → first_fault slots (v ∷ vs) ≡ o
+  unfolding fault_or
+  fault_here slots v vs None e is = absurd (cc is)
+  fault_here slots v vs (Some fault) e is = ap (λ (o : Option Stale). fault_or o (first_fault slots vs)) e
+
+  pub fault_behind : (slots : List (Slotted G)) (v : SegmentView G) (vs : List (SegmentView G)) (o : Option Stale) → fault_at v.epoch (epoch_of v.seg slots) ≡ o → is_some o ≡ false → first_fault slots (v ∷ vs) ≡ first_fault slots vs
+  unfolding fault_or
+  fault_behind slots v vs None e is = ap (λ (o : Option Stale). fault_or o (first_fault slots vs)) e
+  fault_behind slots v vs (Some fault) e is = absurd (cc is)

@@ -49,6 +49,10 @@ get_front [] rest k lt = absurd (omega (arith, lt))
 get_front (f ∷ fs) rest zero lt = refl
 get_front (f ∷ fs) rest (suc k) lt = get_front fs rest k (omega (arith, lt))
 
+pub no_tiny_from : (files : List ColumnFile) (n k : ℕ) (f : ColumnFile) → AllByRecursion (λ (g : ColumnFile). is_tiny g ≡ false) (drop n files) → n ≤ k → slice_get files k ≡ Some f → is_tiny f ≡ false
+unfolding tiny_in
+no_tiny_from files n k f all le there = sym (ap tiny_in there) ∙ no_tiny_behind files n k all le
+
 under : (m n : ℕ) → nat_lt m n ≡ true → m < n
 under m n is = grind (arith, nat_tests)
 

@@ -30,8 +30,8 @@ noughts_all P none (suc m) ts all = (none, noughts_all P none m ts all)
 
 taken_all : (P : ℕ → Type 0) → P 0 → (n m : ℕ) (ts : List ℕ) → AllByRecursion P (take (n - m) ts) → AllByRecursion P (take n (replicate m 0 ++ ts))
 taken_all P none zero m ts all = tt
-taken_all P none (suc n) zero ts all = all
-taken_all P none (suc n) (suc m) ts all = (none, taken_all P none n m ts all)
+taken_all P none (suc n) zero ts all = let same : suc n - 0 ≡ suc n = omega arith in subst (λ (k : ℕ). AllByRecursion P (take k ts)) same all
+taken_all P none (suc n) (suc m) ts all = let same : suc n - suc m ≡ n - m = omega arith in (none, taken_all P none n m ts (subst (λ (k : ℕ). AllByRecursion P (take k ts)) same all))
 
 both_all : {X : Type 0} (P Q : X → Type 0) (xs : List X) → AllByRecursion P xs → AllByRecursion Q xs → AllByRecursion (λ (x : X). P x × Q x) xs
 both_all P Q [] a b = tt
@@ -57,7 +57,7 @@ take_map {Y = Y} f (suc n) (x ∷ xs) = ap (λ (ys : List Y). f x ∷ ys) (take_
 
 module _ {G : Type 0} where
   pub all_said : (s : Slotted G) → IsTagged s → map file_in (all_told s) ≡ files_of s.files
-  all_said s e = said (tags_of s) s.files (omega (arith, e, length-append (replicate s.named 0) s.tags, length-replicate s.named 0))
+  all_said s e = said (tags_of s) s.files (omega (arith, e, length-append (replicate s.named 0) s.tags, length-replicate {A = ℕ} s.named 0))
 
   pub front_is : (v : SegmentView G) (s : Slotted G) → Fits v s → take (length v.delta) s.files ≡ v.delta
   front_is v s fits = ap (take (length v.delta)) fits.files ∙ take-append_seam v.delta fits.rest

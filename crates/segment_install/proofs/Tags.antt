@@ -13,17 +13,26 @@ use Rattle.segment_list.specs.Slots.{clip_file, clip_files, tagged}
 use Rattle.segment_list.proofs.Telling.{clip_file_says}
 
 -- files that are named: the tag of each is 0
-pub named_told : List ColumnFile → List Tagged
+unfoldable pub named_told : List ColumnFile → List Tagged
 named_told files = tagged (replicate (length files) 0) files
 
-pub noughts : (m n : ℕ) → replicate m 0 ++ replicate n 0 ≡ replicate (m + n) 0
-noughts zero n = refl
-noughts (suc m) n = ap (λ (r : List ℕ). 0 ∷ r) (noughts m n)
+pub noughts : (m n : ℕ) → ◌≡◌ {A = List ℕ} (replicate m 0 ++ replicate n 0) (replicate (m + n) 0)
+noughts zero n = let same : n ≡ 0 + n = omega arith in ap (λ (k : ℕ). replicate {A = ℕ} k 0) same
+noughts (suc m) n = let same : suc (m + n) ≡ suc m + n = omega arith in ap (λ (r : List ℕ). 0 ∷ r) (noughts m n) ∙ ap (λ (k : ℕ). replicate {A = ℕ} k 0) same
 
 pub drop_tags : (n named : ℕ) (tags : List ℕ) → drop n (replicate named 0 ++ tags) ≡ replicate (named - n) 0 ++ drop (n - named) tags
-drop_tags zero named tags = refl
-drop_tags (suc n) zero tags = refl
-drop_tags (suc n) (suc named) tags = drop_tags n named tags
+drop_tags zero named tags =
+    let a : named ≡ named - 0 = omega arith in
+    let b : 0 ≡ 0 - named = omega arith in
+    ap (λ (k : ℕ). replicate k 0 ++ tags) a ∙ ap (λ (k : ℕ). replicate (named - 0) 0 ++ drop k tags) b
+drop_tags (suc n) zero tags =
+    let a : 0 ≡ 0 - suc n = omega arith in
+    let b : suc n ≡ suc n - 0 = omega arith in
+    ap (λ (k : ℕ). drop k tags) b ∙ ap (λ (k : ℕ). replicate k 0 ++ drop (suc n - 0) tags) a
+drop_tags (suc n) (suc named) tags =
+    let a : named - n ≡ suc named - suc n = omega arith in
+    let b : n - named ≡ suc n - suc named = omega arith in
+    drop_tags n named tags ∙ ap (λ (k : ℕ). replicate k 0 ++ drop (n - named) tags) a ∙ ap (λ (k : ℕ). replicate (suc named - suc n) 0 ++ drop k tags) b
 
 pub take_tags : (n named : ℕ) (tags : List ℕ) → n ≤ named → take n (replicate named 0 ++ tags) ≡ replicate n 0
 take_tags zero named tags le = refl

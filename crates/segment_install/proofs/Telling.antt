@@ -1,5 +1,5 @@
 -- What the slots of an install say.
-use Rattle.std.proofs.Common.{◌≡◌, ◌∙◌, refl, sym, ap, ℕ, ◌+◌, ◌-◌, ◌≤◌, List, [], ◌∷◌, ◌++◌, Option, length, map, take, drop, replicate, arith}
+use Rattle.std.proofs.Common.{◌≡◌, ◌∙◌, refl, sym, ap, ℕ, suc, ◌+◌, ◌-◌, ◌≤◌, List, [], ◌∷◌, ◌++◌, Option, length, map, take, drop, replicate, arith}
 use Rattle.std.proofs.lemmas.List.{append_assoc, length-append, length-drop, length-replicate, length-take-le, map-append, take-append-drop}
 use Rattle.column_block.specs.declared.cell.Version.{Version}
 use Rattle.column_file.specs.declared.file.ColumnFile.{ColumnFile}
@@ -20,7 +20,7 @@ use Rattle.segment_install.specs.Told.{all_told, rest_told, side_of}
 use Rattle.segment_install.proofs.Tags.{clip_both, drop_tags, named_both, named_clip, named_told, noughts, tagged_drop, tagged_take, take_tags}
 
 -- what files of a rest say, those that are named first
-rest_says : Rest → List Tagged
+pub rest_says : Rest → List Tagged
 rest_says rest = named_told rest.named ++ map told_one rest.others
 
 pub says_rest : (rest : Rest) → tagged (replicate (length rest.named) 0 ++ map tag_in rest.others) (rest.named ++ map file_in rest.others) ≡ rest_says rest
@@ -38,6 +38,13 @@ drop_noughts : (k : ℕ) (ts : List ℕ) → drop k (replicate k 0 ++ ts) ≡ ts
 drop_noughts k ts =
     let e : k - k ≡ 0 = omega arith in
     drop_tags k k ts ∙ ap (λ (j : ℕ). replicate j 0 ++ drop j ts) e
+
+both_says : (a b : Rest) → rest_says (both_rests a b) ≡ named_told a.named ++ (named_told b.named ++ (map told_one a.others ++ map told_one b.others))
+unfolding rest_says
+both_says a b =
+    ap (λ (r : List Tagged). r ++ map told_one (a.others ++ b.others)) (named_both a.named b.named)
+    ∙ ap (λ (r : List Tagged). (named_told a.named ++ named_told b.named) ++ r) (map-append told_one a.others b.others)
+    ∙ append_assoc (named_told a.named) (named_told b.named) (map told_one a.others ++ map told_one b.others)
 
 module _ {G : Type 0} where
   -- the rest with its tags
@@ -80,13 +87,6 @@ module _ {G : Type 0} where
       ∙ sym (clip_both piece.range (take (s.named - n) (rest_told n s)) (drop (s.named - n) (rest_told n s)))
       ∙ ap (clip piece.range) (take-append-drop (s.named - n) (rest_told n s)))
 
-  both_says : (a b : Rest) → rest_says (both_rests a b) ≡ named_told a.named ++ (named_told b.named ++ (map told_one a.others ++ map told_one b.others))
-  unfolding rest_says
-  both_says a b =
-      ap (λ (r : List Tagged). r ++ map told_one (a.others ++ b.others)) (named_both a.named b.named)
-      ∙ ap (λ (r : List Tagged). (named_told a.named ++ named_told b.named) ++ r) (map-append told_one a.others b.others)
-      ∙ append_assoc (named_told a.named) (named_told b.named) (map told_one a.others ++ map told_one b.others)
-
   clip_named : (range : HandleRange) (n : ℕ) (s : Slotted G) → IsTagged s → named_told (clip_rest range (rest_of n s)).named ≡ clip range (take (s.named - n) (rest_told n s))
   clip_named range n s ok = named_clip range (rest_of n s).named ∙ ap (clip range) (sym (named_part n s ok))
 
@@ -114,6 +114,8 @@ module _ {G : Type 0} where
       let k : ℕ = s.named - to in
       let shape : s.named - (to - from) + 1 ≡ from + (1 + k) = omega (arith, le, named) in
       let none : to - s.named ≡ 0 = omega (arith, named) in
+      let succ : 1 + k ≡ suc k = omega arith in
+      let one_more : replicate (1 + k) 0 ≡ 0 ∷ replicate k 0 = ap (λ (j : ℕ). replicate {A = ℕ} j 0) succ in
       let long : length (take from s.files) ≡ length (replicate from 0) = length-take-le from s.files (omega (arith, ok, le, named)) ∙ sym (length-replicate from 0) in
       let before : take from (all_told s) ≡ tagged (replicate from 0) (take from s.files) = tagged_take from (tags_of s) s.files ∙ ap (λ (ts : List ℕ). tagged ts (take from s.files)) (take_tags from s.named s.tags (omega (arith, le, named))) in
       let after : drop to (all_told s) ≡ tagged (replicate k 0 ++ s.tags) (drop to s.files) = tagged_drop to (tags_of s) s.files ∙ ap (λ (ts : List ℕ). tagged ts (drop to s.files)) (drop_tags to s.named s.tags ∙ ap (λ (j : ℕ). replicate k 0 ++ drop j s.tags) none) in
@@ -122,5 +124,6 @@ module _ {G : Type 0} where
       ∙ ap (λ (ts : List ℕ). tagged (ts ++ s.tags) (take from s.files ++ one ∷ drop to s.files)) (sym (noughts from (1 + k)))
       ∙ ap (λ (ts : List ℕ). tagged ts (take from s.files ++ one ∷ drop to s.files)) (append_assoc (replicate from 0) (replicate (1 + k) 0) s.tags)
       ∙ both_told (replicate from 0) (replicate (1 + k) 0 ++ s.tags) (take from s.files) (one ∷ drop to s.files) long
+      ∙ ap (λ (ts : List ℕ). tagged (replicate from 0) (take from s.files) ++ tagged (ts ++ s.tags) (one ∷ drop to s.files)) one_more
       ∙ ap (λ (r : List Tagged). r ++ record { tag = 0; file = file_of one } ∷ tagged (replicate k 0 ++ s.tags) (drop to s.files)) (sym before)
       ∙ ap (λ (r : List Tagged). take from (all_told s) ++ record { tag = 0; file = file_of one } ∷ r) (sym after))

@@ -47,14 +47,14 @@ use Rattle.segment_install.proofs.Running.{run_named, run_tinies, same_slice}
 -- ---- what stands at the place, and what takes its place, by the job
 
 -- a slot gives way
-record OneAt {G : Type 0} (slots : List (Slotted G)) (place count : ℕ) (v : SegmentView G) : Type 0 where
+pub record OneAt {G : Type 0} (slots : List (Slotted G)) (place count : ℕ) (v : SegmentView G) : Type 0 where
   pub slot : Slotted G
   pub there : slice_get slots place ≡ Some slot
   pub olds : take count (drop place slots) ≡ slot ∷ []
   pub fits : Fits v slot
 
 -- two slots give way
-record TwoAt {G : Type 0} (slots : List (Slotted G)) (place count : ℕ) (v w : SegmentView G) : Type 0 where
+pub record TwoAt {G : Type 0} (slots : List (Slotted G)) (place count : ℕ) (v w : SegmentView G) : Type 0 where
   pub left : Slotted G
   pub right : Slotted G
   pub left_there : slice_get slots place ≡ Some left
@@ -283,7 +283,7 @@ module _ {G : Type 0} (committed last first : ℕ) (files : Files G) (built : Bu
       let one : OneAt slots install.place install.count is.of.view = one_slot first install.place install.count built slots ready plan.count is.of.view (ap segments_for e) is.of.views in
       let same : one.slot ≡ s = slot_same (sym one.olds ∙ are) in
       let ok : IsSlot committed last s = subst (IsSlot committed last) same (slot_at install.place one.slot one.there) in
-      subst (AllByRecursion (IsSlot committed last)) (sym is.are) (half_in_order committed last (first + 2) is.of.low.range (part_of first files.low) (length is.of.view.delta) s ok, half_in_order committed last (first + 3) is.of.high.range (part_of (first + 1) files.high) (length is.of.view.delta) s ok, tt)
+      subst (AllByRecursion (IsSlot committed last)) (sym is.are) (half_in_order committed last (first + 2) is.of.low.range (part_of first files.low) (length is.of.view.delta) s ok, (half_in_order committed last (first + 3) is.of.high.range (part_of (first + 1) files.high) (length is.of.view.delta) s ok, tt))
   news_in_order (Merge seg) e [] are is = absurd is
   news_in_order (Merge seg) e (s ∷ []) are is = absurd is
   news_in_order (Merge seg) e (s ∷ t ∷ u ∷ more) are is = absurd is

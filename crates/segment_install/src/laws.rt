@@ -3,6 +3,7 @@ ghost use Rattle.std.specs.Prelude.{ℕ, List};
 ghost use Rattle.column_block.specs.declared.column.Column.{Column};
 ghost use Rattle.delta_layer.specs.declared.built.Built.{Built};
 ghost use Rattle.segment_laws.specs.Jobs.{IsBuilt};
+ghost use Rattle.segment_install.specs.Goodness.{InstallsKeepAll, InstallsKeepCounts, InstallsKeepOrder};
 ghost use Rattle.segment_install.specs.Plans.{IsBuiltFor};
 ghost use Rattle.segment_install.specs.Told.{CompactedSlotsSayTheRun, HalfSlotsSayTheirPart, JoinedSlotsSayBoth, MergedSlotsSayTheRest};
 
@@ -33,4 +34,16 @@ pub fn compacted_slots_say_the_run<G>()
 /// makes.
 pub fn builds_can_be_installed<G: Gripped>()
     ensures { (columns : List Column) (rows : ℕ) (built : Built G) → IsBuilt G.Gripped.tells G.Gripped.bytes columns rows built → IsBuiltFor built.job built }
+{}
+
+/// Where what is there at each count was good, it is so once an install is put; and so is all that is
+/// there.
+pub fn installs_keep_good<G: Gripped>()
+    ensures counts { InstallsKeepCounts G.Gripped.tells G.Gripped.bytes }
+    ensures all { InstallsKeepAll G.Gripped.tells G.Gripped.bytes }
+{}
+
+/// Slots that are in order give way to slots that are.
+pub fn installs_keep_order<G>()
+    ensures { InstallsKeepOrder G }
 {}

@@ -10,7 +10,7 @@ mod rest;
 mod staleness;
 
 pub use laws::{
-    builds_can_be_installed, compacted_slots_say_the_run, half_slots_say_their_part,
+    builds_can_be_installed, compacted_slots_say_the_run, half_slots_say_their_part, installs_keep_good, installs_keep_order,
     joined_slots_say_both, merged_slots_say_the_rest,
 };
 pub use part::{Files, Part};

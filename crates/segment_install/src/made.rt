@@ -6,7 +6,7 @@ ghost use Rattle.segment_install.specs.Slots.{IsBehind, compacted_slot, half_slo
 
 use crate::Memory;
 use crate::part::Part;
-use crate::rest::{add_named, add_others};
+use crate::rest::{add_both_named, add_both_others, add_named, add_others};
 use column_block::Block;
 use column_file::ColumnFile;
 use delta_layer::DeltaLayer;
@@ -196,10 +196,8 @@ pub fn joined_slot<G: Drop>(
     ensures { IfOk result (λ new. new ≡ joined_slot id range part left_taken left.now right_taken right.now) }
 {
     let mut gathering = Gathering::new(alloc);
-    add_named(&mut gathering, left.range(), left, left_taken)?;
-    add_named(&mut gathering, right.range(), right, right_taken)?;
+    add_both_named(&mut gathering, left, left_taken, right, right_taken)?;
     let named = gathering.files();
-    add_others(&mut gathering, left.range(), left, left_taken, alloc)?;
-    add_others(&mut gathering, right.range(), right, right_taken, alloc)?;
+    add_both_others(&mut gathering, left, left_taken, right, right_taken, alloc)?;
     new_slot(id, range, part, named, gathering)
 }

@@ -212,11 +212,14 @@ fn news_at<G: Drop>(
     }
 }
 
-// A list without an element that has room for so many.
-fn room_for<G: Drop>(count: usize, alloc: Global) -> Result<Vec<Slot<G>>, Memory>
+// A list without an element that has room for the slots and for two more.
+fn room_for<G: Drop>(slots: &[Slot<G>], alloc: Global) -> Result<Vec<Slot<G>>, Memory>
     ensures empty { IfOk result (λ room. vec_len room ≡ 0) }
-    ensures room { IfOk result (λ room. count ≤ vec_capacity room) }
+    ensures room { IfOk result (λ room. length slots.now + 2 ≤ vec_capacity room) }
 {
+    let Some(count) = slots.len().checked_add(2) else {
+        return Err(Memory);
+    };
     match Vec::with_capacity(alloc, count) {
         Ok(room) => Ok(room),
         Err(_) => Err(Memory),
@@ -249,10 +252,7 @@ pub fn plan<G: Drop>(
     };
     let count = segments_for(built.job);
     let slots = news_at(list.slots(), place, built, files, first, alloc)?;
-    let Some(all) = list.slots().len().checked_add(2) else {
-        return Err(Memory);
-    };
-    let spare = room_for(all, alloc)?;
+    let spare = room_for(list.slots(), alloc)?;
     Ok(Install {
         place,
         count,

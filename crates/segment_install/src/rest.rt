@@ -51,3 +51,36 @@ pub fn add_others<G: Drop>(
         Err(_) => Err(Memory),
     }
 }
+
+/// Adds those of two slots that are named, each kept to its own slot's range.
+pub fn add_both_named<G: Drop>(
+    gathering: &mut Gathering,
+    left: &Slot<G>,
+    left_taken: usize,
+    right: &Slot<G>,
+    right_taken: usize,
+) -> Result<(), Memory>
+    requires left { IsBehind left_taken left.now }
+    requires right { IsBehind right_taken right.now }
+    ensures { OnOk result (gathering.new ≡ record gathering.old { files = gathering.old.files ++ (clip_files left.now.range (rest_of left_taken left.now).named ++ clip_files right.now.range (rest_of right_taken right.now).named) }) }
+{
+    add_named(gathering, left.range(), left, left_taken)?;
+    add_named(gathering, right.range(), right, right_taken)
+}
+
+/// Adds the others of two slots, each kept to its own slot's range, with their tags.
+pub fn add_both_others<G: Drop>(
+    gathering: &mut Gathering,
+    left: &Slot<G>,
+    left_taken: usize,
+    right: &Slot<G>,
+    right_taken: usize,
+    alloc: Global,
+) -> Result<(), Memory>
+    requires left { IsBehind left_taken left.now }
+    requires right { IsBehind right_taken right.now }
+    ensures { OnOk result (gathering.new ≡ with_pairs gathering.old (clip_pairs left.now.range (rest_of left_taken left.now).others ++ clip_pairs right.now.range (rest_of right_taken right.now).others)) }
+{
+    add_others(gathering, left.range(), left, left_taken, alloc)?;
+    add_others(gathering, right.range(), right, right_taken, alloc)
+}
