@@ -2,7 +2,9 @@
 use Rattle.std.proofs.Common.{◌≡◌, ◌∙◌, refl, sym, ap, subst, ℕ, zero, suc, ◌+◌, ◌-◌, ◌<◌, ◌≤◌, Option, Some, None, List, [], ◌∷◌, ◌++◌, length, take, drop, get_or, nat_eq, arith}
 use Rattle.std.specs.Prelude.{IfSome, position, slice_get}
 use Rattle.std.specs.List.{AllByRecursion}
+use Rattle.std.proofs.lemmas.List.{append_assoc}
 use Rattle.std.proofs.lemmas.Option.{slice_get-get_or}
+use Rattle.column_file.specs.declared.file.ColumnFile.{ColumnFile}
 use Rattle.column_file.specs.declared.file.ColumnFile.TheVariants.{Tiny}
 use Rattle.delta_layer.specs.Laws.{TinyFilesBecomeOne}
 use Rattle.delta_layer.specs.Repacked.{CanCompact}
@@ -11,7 +13,7 @@ use Rattle.delta_layer.specs.declared.built.Job.{Job}
 use Rattle.delta_layer.specs.declared.built.Job.TheVariants.{Compact, MergeDelta, Split, Merge}
 use Rattle.delta_layer.specs.declared.view.SegmentView.{SegmentView}
 use Rattle.segment_laws.specs.Runs.{IsFirstRun, run_of}
-use Rattle.segment_list.specs.Slots.{Slotted}
+use Rattle.segment_list.specs.Slots.{Gathered, Slotted}
 use Rattle.segment_work.specs.Jobs.{segment_of}
 use Rattle.segment_install.specs.Plans.{AreHalves, AreHalvesBuilt, CanInstall, CanInstallAt, IsBothBuilt, IsBuiltFor, IsCompacted, IsJoined, IsLaid, IsMerged, IsOneBuilt, IsRunBuilt, part_of}
 use Rattle.segment_install.specs.Slots.{Fits, compacted_slot, half_slot, joined_slot, merged_slot}
@@ -24,6 +26,10 @@ use Rattle.segment_install.proofs.Running.{one_run, run_can, run_named, run_tini
 
 pub stands_there : {X : Type 0} (xs : List X) (k : ℕ) (x : X) → k < length xs → x ≡ get_or xs k x → slice_get xs k ≡ Some x
 stands_there {X = X} xs k x lt e = slice_get-get_or xs k x lt ∙ ap (λ (y : X). Some y) (sym e)
+
+-- files that are gathered one after the other
+pub named_gathered : (old mid : Gathered) (left right : List ColumnFile) → mid ≡ record old { files = old.files ++ left } → record mid { files = mid.files ++ right } ≡ record old { files = old.files ++ (left ++ right) }
+named_gathered old mid left right e = ap (λ (r : Gathered). record r { files = r.files ++ right }) e ∙ ap (λ (fs : List ColumnFile). record old { files = fs }) (append_assoc old.files left right)
 
 module _ {G : Type 0} where
   pub compact_can : TinyFilesBecomeOne → (first : ℕ) (built : Built G) (s : Slotted G) (of : IsRunBuilt s.id built) (a b : ℕ) → Fits of.view s → IsLaid first s → IsFirstRun of.view.delta a b → CanCompact a b (Tiny first of.piece.versions) s.files × (b ≤ s.named)
