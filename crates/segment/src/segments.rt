@@ -132,6 +132,21 @@ impl<G: Drop> Segment<G> {
         self.epoch += 1;
     }
 
+    /// The segment as it is once these parts have taken the place of its own: of the same number and
+    /// with the same handles, its epoch higher by 1. This segment stays as it is. It takes no memory.
+    pub fn successor(&self, layer: DeltaLayer, stable: Option<StableFile<G>>) -> Segment<G>
+        requires room { self.now.epoch < 2 ^ 64 - 1 }
+        ensures { result ≡ record self.now { epoch = self.now.epoch + 1; layer = layer; stable = stable } }
+    {
+        Segment {
+            seg: self.seg,
+            range: self.range,
+            epoch: self.epoch + 1,
+            layer,
+            stable,
+        }
+    }
+
     /// The segment's number.
     pub fn id(&self) -> SegId
         ensures { result ≡ self.now.seg }

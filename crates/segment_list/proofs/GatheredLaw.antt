@@ -9,16 +9,16 @@ use Rattle.prefix_laws.specs.Tagged.{Tagged}
 use Rattle.segment_list.specs.Slots.{tagged, told_one, tag_in, file_in, clip_pairs, pairs_of, Gathered, with_pairs}
 use Rattle.segment_list.proofs.Telling.{clip_pairs_say}
 
-told_pairs : (ts : List ℕ) (fs : List ColumnFile) → map told_one (pairs_of ts fs) ≡ tagged ts fs
+pub told_pairs : (ts : List ℕ) (fs : List ColumnFile) → map told_one (pairs_of ts fs) ≡ tagged ts fs
 told_pairs [] fs = refl
 told_pairs (t ∷ ts) [] = refl
 told_pairs (t ∷ ts) (f ∷ fs) = ap (λ (r : List Tagged). record { tag = t; file = file_of f } ∷ r) (told_pairs ts fs)
 
-pairs_told : (ps : List (ℕ × ColumnFile)) → tagged (map tag_in ps) (map file_in ps) ≡ map told_one ps
+pub pairs_told : (ps : List (ℕ × ColumnFile)) → tagged (map tag_in ps) (map file_in ps) ≡ map told_one ps
 pairs_told [] = refl
 pairs_told (p ∷ ps) = ap (λ (r : List Tagged). told_one p ∷ r) (pairs_told ps)
 
-both_told : (ts us : List ℕ) (fs gs : List ColumnFile) → length fs ≡ length ts → tagged (ts ++ us) (fs ++ gs) ≡ tagged ts fs ++ tagged us gs
+pub both_told : (ts us : List ℕ) (fs gs : List ColumnFile) → length fs ≡ length ts → tagged (ts ++ us) (fs ++ gs) ≡ tagged ts fs ++ tagged us gs
 both_told [] us [] gs e = refl
 both_told [] us (f ∷ fs) gs e = absurd (omega arith)
 both_told (t ∷ ts) us [] gs e = absurd (omega arith)

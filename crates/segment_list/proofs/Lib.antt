@@ -11,3 +11,4 @@ pub mod Places
 pub mod Listed
 pub mod Rows
 pub mod Flushing
+pub mod Replacing

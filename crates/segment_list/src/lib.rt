@@ -6,6 +6,8 @@ mod flush;
 mod gathered;
 mod laws;
 mod list;
+mod moving;
+mod naming;
 mod segments;
 mod slot;
 

@@ -1,17 +1,19 @@
 // The segments of a replica: slots that cover all handles.
-ghost use Rattle.std.specs.Prelude.{◌≡◌, ◌≢◌, ◌==◌, ◌-◌, ◌^◌, ◌<◌, ℕ, cond, List, length, map, position, set, slice_get, Some, IfOk, OnOk, OnErr};
+ghost use Rattle.std.specs.Prelude.{◌≡◌, ◌≢◌, ◌==◌, ◌+◌, ◌-◌, ◌^◌, ◌<◌, ◌≤◌, ℕ, cond, true, List, drop, length, map, position, set, slice_get, slice_index_or, take, Some, None, IfOk, OnOk, OnErr, vec_capacity, vec_len};
 ghost use Rattle.segment_list.specs.Flushes.{IsFlushOf, flushed_slot};
-ghost use Rattle.std.specs.List.{All, AllPairs};
+ghost use Rattle.std.specs.List.{All};
 ghost use Rattle.std.specs.BTreeMap.{get, is_at};
 ghost use Rattle.std.specs.Ordering.{nat_cmp};
 ghost use Rattle.flash_types.specs.Ranges.{all_handles, holds, least_handle};
 ghost use Rattle.good_replica.specs.Good.{CoversFrom};
-ghost use Rattle.segment_list.specs.Lists.{Cover, range_alone};
+ghost use Rattle.segment_list.specs.Lists.{AreNoted, Cover, CoverAlike, HaveNoted, NumbersDiffer, is_file_in, range_alone, with_slots};
 ghost use Rattle.segment_list.specs.Slots.{Slotted, absorbed, key_of};
 
 use crate::Memory;
 use crate::flush::{Flush, flush_of};
 use crate::list::{absorb_within, place_within, take_back_within};
+use crate::moving::put_slots;
+use crate::naming::is_file_in;
 use crate::slot::Slot;
 use column_block::Block;
 use flash_io::FileId;
@@ -20,12 +22,14 @@ use std::alloc::Global;
 use std::collections::BTreeMap;
 use std::marker::Model;
 
-/// The segments of a replica, which cover all handles, in their order. Contracts see the list of
-/// them. Beside it stands where the segment of each number begins.
+/// The segments of a replica, which cover all handles, in their order, each with a number of its own.
+/// Contracts see the list of them. Beside it stands where the segment of each number begins, as far
+/// as there was memory to note it.
 #[derive(Drop)]
 pub struct SegmentList<G> {
     slots: Vec<Slot<G>>,
     lows: BTreeMap<SegId, Handle>,
+    all_noted: bool,
 }
 
 impl<G> Model for SegmentList<G> {
@@ -39,7 +43,7 @@ impl<G> Model for SegmentList<G> {
 
     ghost view = { λ it. it.slots.items };
 
-    ghost invariant = { λ it. AreSegments (get nat_cmp it.lows) it.slots.items };
+    ghost invariant = { λ it. AreSegments (get nat_cmp it.lows) it.all_noted it.slots.items };
 }
 
 // Notes where the segment of a number begins.
@@ -52,17 +56,68 @@ fn note(lows: &mut BTreeMap<SegId, Handle>, id: SegId, low: Handle) -> Result<()
     }
 }
 
-// Where the segment of each number begins.
-fn lows_of<G: Drop>(slots: &[Slot<G>], alloc: Global) -> Result<BTreeMap<SegId, Handle>, Memory>
-    requires { AllPairs (λ s t. s.id ≢ t.id) slots.now }
-    ensures { IfOk result (λ lows. All (λ s. get nat_cmp lows s.id ≡ Some s.range.low) slots.now) }
+// Notes where each of the slots begins. `Memory` comes where one can't be noted.
+fn note_all<G: Drop>(
+    lows: &mut BTreeMap<SegId, Handle>,
+    slots: &[Slot<G>],
+) -> Result<(), Memory>
+    requires { NumbersDiffer slots.now }
+    ensures { OnOk result (HaveNoted (get nat_cmp lows.old) (get nat_cmp lows.new) slots.now) }
 {
-    let mut lows = BTreeMap::new(alloc);
     for i in 0..slots.len() {
         let slot = &slots[i];
-        note(&mut lows, slot.id(), slot.low())?;
+        note(lows, slot.id(), slot.low())?;
     }
+    Ok(())
+}
+
+// Notes where more slots begin, and answers whether all are noted then, where it is known whether all
+// others are.
+fn all_noted_with<G: Drop>(
+    lows: &mut BTreeMap<SegId, Handle>,
+    slots: &[Slot<G>],
+    all_noted: bool,
+) -> bool
+    requires { NumbersDiffer slots.now }
+    ensures { result ≡ true → HaveNoted (get nat_cmp lows.old) (get nat_cmp lows.new) slots.now × (all_noted ≡ true) }
+{
+    match note_all(lows, slots) {
+        Ok(()) => all_noted,
+        Err(_) => false,
+    }
+}
+
+// Where the segment of each number begins.
+fn lows_of<G: Drop>(slots: &[Slot<G>], alloc: Global) -> Result<BTreeMap<SegId, Handle>, Memory>
+    requires { NumbersDiffer slots.now }
+    ensures { IfOk result (λ lows. AreNoted (get nat_cmp lows) slots.now) }
+{
+    let mut lows = BTreeMap::new(alloc);
+    note_all(&mut lows, slots)?;
     Ok(lows)
+}
+
+// Forgets where the segment of a number begins.
+fn forget(lows: &mut BTreeMap<SegId, Handle>, id: SegId)
+    ensures { (q : ℕ) → get nat_cmp lows.new q ≡ cond (is_at (nat_cmp id) q) None (get nat_cmp lows.old q) }
+{
+    lows.remove(&id);
+}
+
+// Forgets where the slots from a place to another begin.
+fn forget_some<G: Drop>(
+    lows: &mut BTreeMap<SegId, Handle>,
+    slots: &[Slot<G>],
+    from: usize,
+    to: usize,
+)
+    requires order { from ≤ to }
+    requires within { to ≤ length slots.now }
+    ensures { (q : ℕ) → ((k : ℕ) (d : Slotted G) → from ≤ k → k < to → (slice_index_or slots.now k d).id ≢ q) → get nat_cmp lows.new q ≡ get nat_cmp lows.old q }
+{
+    for i in from..to {
+        forget(lows, slots[i].id());
+    }
 }
 
 // Where the segment of a number begins, where there was one.
@@ -120,15 +175,53 @@ fn place_of<G: Drop>(slots: &[Slot<G>], handle: Handle) -> Option<usize>
     place_within(slots, HandleRange::all(), handle)
 }
 
+// The place of the slot of a number, where it is noted for each slot where it begins.
+fn noted_place<G: Drop>(
+    lows: &BTreeMap<SegId, Handle>,
+    slots: &[Slot<G>],
+    id: SegId,
+) -> Option<usize>
+    requires cover { CoversFrom least_handle (map range_alone slots.now) }
+    requires noted { AreNoted (get nat_cmp lows.now) slots.now }
+    ensures { result ≡ position (λ s. s.id == id) slots.now }
+{
+    let Some(low) = low_of(lows, id) else {
+        return None;
+    };
+    let Some(place) = place_of(slots, low) else {
+        return None;
+    };
+    if slots[place].id() == id {
+        return Some(place);
+    }
+    None
+}
+
+// The same, by looking at the slots one by one.
+fn place_with<G: Drop>(slots: &[Slot<G>], id: SegId) -> Option<usize>
+    ensures { result ≡ position (λ s. s.id == id) slots.now }
+{
+    for i in 0..slots.len() {
+        if slots[i].id() == id {
+            return Some(i);
+        }
+    }
+    None
+}
+
 impl<G: Drop> SegmentList<G> {
     /// A list of these slots.
     pub fn new(slots: Vec<Slot<G>>, alloc: Global) -> Result<SegmentList<G>, Memory>
         requires cover { CoversFrom least_handle (map range_alone slots.items) }
-        requires numbers { AllPairs (λ s t. s.id ≢ t.id) slots.items }
+        requires numbers { NumbersDiffer slots.items }
         ensures { IfOk result (λ list. list ≡ slots.items) }
     {
         let lows = lows_of(slots.as_slice(), alloc)?;
-        Ok(SegmentList { slots, lows })
+        Ok(SegmentList {
+            slots,
+            lows,
+            all_noted: true,
+        })
     }
 
     /// That the segments cover all handles. It does nothing when it runs.
@@ -141,6 +234,7 @@ impl<G: Drop> SegmentList<G> {
     /// That no two segments have the same number. It does nothing when it runs.
     pub fn numbers_differ(&self)
         ensures { AllPairs (λ s t. s.id ≢ t.id) self.now }
+        ensures { NumbersDiffer self.now }
     {
         let _slots = &self.slots;
     }
@@ -159,20 +253,15 @@ impl<G: Drop> SegmentList<G> {
         place_of(self.slots.as_slice(), handle)
     }
 
-    /// The place of the slot of this number, found in a map and by halving; none where there is none.
+    /// The place of the slot of this number; none where there is none. It is found in a map and by
+    /// halving, or where memory ran out for the map, by looking at the slots one by one.
     pub fn slot_with(&self, id: SegId) -> Option<usize>
         ensures { result ≡ position (λ s. s.id == id) self.now }
     {
-        let Some(low) = low_of(&self.lows, id) else {
-            return None;
-        };
-        let Some(place) = place_of(self.slots.as_slice(), low) else {
-            return None;
-        };
-        if self.slots[place].id() == id {
-            return Some(place);
+        if self.all_noted {
+            return noted_place(&self.lows, self.slots.as_slice(), id);
         }
-        None
+        place_with(self.slots.as_slice(), id)
     }
 
     /// Adds to each slot what an entry says of its handles: a delete-range and versions, with this
@@ -220,5 +309,37 @@ impl<G: Drop> SegmentList<G> {
         ensures { (s : Slotted G) → slice_get self.old place ≡ Some s → self.new ≡ set self.old place (flushed_slot flush.from s) }
     {
         put_at(&mut self.slots, place, flush);
+    }
+
+    /// Puts slots in the place of `count` others that stand side by side, whose handles they have.
+    /// It takes no memory that it must have: all slots move to `spare`, which has no element and room
+    /// for all of them; and where there is none to note a number, that one is looked for among all
+    /// slots from then on.
+    pub fn replace(
+        &mut self,
+        place: usize,
+        count: usize,
+        news: Vec<Slot<G>>,
+        spare: Vec<Slot<G>>,
+    )
+        requires some { 0 < count }
+        requires within { place + count ≤ length self.old }
+        requires cover { CoverAlike (take count (drop place self.old)) news.items }
+        requires numbers { NumbersDiffer (with_slots place count news.items self.old) }
+        requires empty { vec_len spare ≡ 0 }
+        requires room { length (with_slots place count news.items self.old) ≤ vec_capacity spare }
+        ensures { self.new ≡ with_slots place count news.items self.old }
+    {
+        forget_some(&mut self.lows, self.slots.as_slice(), place, place + count);
+        self.all_noted = all_noted_with(&mut self.lows, news.as_slice(), self.all_noted);
+        put_slots(&mut self.slots, place, count, news, spare);
+    }
+
+    /// Whether the manifest names a file for the segments: as the file of a stable part, or as a tiny
+    /// file of a delta. It looks at all segments.
+    pub fn is_named(&self, file: FileId) -> bool
+        ensures { result ≡ is_file_in file self.now }
+    {
+        is_file_in(self.slots.as_slice(), file)
     }
 }

@@ -99,6 +99,30 @@ fn renew<G: Drop>(segment: &mut Segment<G>, flush: Flush)
 }
 
 impl<G: Drop> Slot<G> {
+    /// A slot of these parts. `Memory` comes where its rows can't be counted.
+    pub fn of_parts(
+        segment: Segment<G>,
+        stable_number: Option<FileId>,
+        named: usize,
+        tags: Vec<u64>,
+    ) -> Result<Slot<G>, Memory>
+        ensures { IfOk result (λ slot. slot ≡ record { id = segment.seg; range = segment.range; epoch = segment.epoch; files = segment.layer; stable = segment.stable; stable_number = stable_number; named = named; tags = tags.items }) }
+    {
+        let Some((mem, delta)) = rows_in(segment.layer()) else {
+            return Err(Memory);
+        };
+        let below = rows_below(segment.range(), segment.stable());
+        Ok(Slot {
+            segment,
+            stable_number,
+            named,
+            tags,
+            mem,
+            delta,
+            below,
+        })
+    }
+
     /// A segment as an opening finds it: each of its files is named. `Memory` comes where its rows
     /// can't be counted.
     pub fn opened(
@@ -108,20 +132,15 @@ impl<G: Drop> Slot<G> {
     ) -> Result<Slot<G>, Memory>
         ensures { IfOk result (λ slot. slot ≡ record { id = segment.seg; range = segment.range; epoch = segment.epoch; files = segment.layer; stable = segment.stable; stable_number = stable_number; named = length segment.layer; tags = [] }) }
     {
-        let Some((mem, delta)) = rows_in(segment.layer()) else {
-            return Err(Memory);
-        };
         let named = segment.layer().files();
-        let below = rows_below(segment.range(), segment.stable());
-        Ok(Slot {
-            segment,
-            stable_number,
-            named,
-            tags: Vec::new(alloc),
-            mem,
-            delta,
-            below,
-        })
+        Slot::of_parts(segment, stable_number, named, Vec::new(alloc))
+    }
+
+    /// The segment.
+    pub fn segment(&self) -> &Segment<G>
+        ensures { result.now ≡ record { seg = self.now.id; range = self.now.range; epoch = self.now.epoch; layer = self.now.files; stable = self.now.stable } }
+    {
+        &self.segment
     }
 
     /// The segment's number.

@@ -8,6 +8,7 @@ mod runs;
 mod work;
 
 pub use builds::build;
+pub use runs::first_run;
 pub use work::{Work, begin};
 
 #[cfg(test)]

@@ -12,6 +12,6 @@ absorb_slots-requires g c = cover_from least_handle c.self.inside.slots.items c.
 
 pub invariant_of-self : goal.invariant_of-self
 invariant_of-self g c = elim c.match-absorb_slots.branch [
-  | in-Ok w ↦ segments_stay (get nat_cmp c.self.inside.lows) c.absorb_slots.new.slots.items c.self.inside.slots.items (ap (map key_of) w.in-Ok.ensures.ok ∙ same_keys c.args.tag c.args.clears c.args.adds.now c.self.inside.slots.items) c.self.invariant
-  | in-Err w ↦ segments_stay (get nat_cmp c.self.inside.lows) c.absorb_slots.new.slots.items c.self.inside.slots.items (ap (map key_of) w.in-Err.ensures.err) c.self.invariant
+  | in-Ok w ↦ segments_stay (get nat_cmp c.self.inside.lows) c.self.inside.all_noted c.absorb_slots.new.slots.items c.self.inside.slots.items (ap (map key_of) w.in-Ok.ensures.ok ∙ same_keys c.args.tag c.args.clears c.args.adds.now c.self.inside.slots.items) c.self.invariant
+  | in-Err w ↦ segments_stay (get nat_cmp c.self.inside.lows) c.self.inside.all_noted c.absorb_slots.new.slots.items c.self.inside.slots.items (ap (map key_of) w.in-Err.ensures.err) c.self.invariant
 ]

@@ -1,8 +1,7 @@
-use Rattle.std.proofs.Common.{◌≡◌, subst, List, Some}
+use Rattle.std.proofs.Common.{subst}
 use Rattle.std.specs.BTreeMap.{get}
-use Rattle.std.specs.List.{All}
 use Rattle.std.specs.Ordering.{nat_cmp}
-use Rattle.segment_list.specs.Slots.{Slotted}
+use Rattle.segment_list.specs.Lists.{AreNoted}
 use Rattle.segment_list.proofs.segments.SegmentList.new.Goals as goal
 
 pub invariant_of-result : goal.invariant_of-result
@@ -10,4 +9,6 @@ invariant_of-result g c = record {
   cover = c.requires.cover;
   found = subst (λ (slots : List (Slotted g.row.G.Denot)). All (λ (s : Slotted g.row.G.Denot). get nat_cmp c.in_ok-lows.lows s.id ≡ Some s.range.low) slots) c.as_slice.ensures.value c.in_ok-lows.ensures;
   differ = c.requires.numbers;
+  numbers = c.requires.numbers;
+  found = λ yes. subst (AreNoted (get nat_cmp c.in_ok-lows.lows)) c.as_slice.ensures.value c.in_ok-lows.ensures;
 }

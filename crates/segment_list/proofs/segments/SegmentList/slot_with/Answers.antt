@@ -1,49 +1,8 @@
-use Rattle.std.proofs.Common.{◌≡◌, ◌∙◌, sym, ap, subst, ℕ, ℤ, Some, true, false, nat_eq, FitsSigned, get_or, position, w64, rules, arith}
+use Rattle.std.proofs.Common.{sym, subst}
 use Rattle.std.specs.BTreeMap.{get}
 use Rattle.std.specs.Ordering.{nat_cmp}
-use Rattle.std.proofs.lemmas.Bool.{eq-eqb}
-use Rattle.std.proofs.lemmas.Bool.Decides.{nat_tests}
-use Rattle.std.proofs.lemmas.Int.{to_z-of_z}
-use Rattle.flash_types.specs.Ranges.{all_handles, holds, least_handle}
-use Rattle.segment_list.specs.Lists.{Cover}
-use Rattle.segment_list.specs.Slots.{Slotted}
-use Rattle.segment_list.proofs.Listed.{cover_from, holds_its_low, no_place, other_number, same_place, unknown_number}
+use Rattle.segment_list.specs.Lists.{AreNoted}
 use Rattle.segment_list.proofs.segments.SegmentList.slot_with.Goals as goal
 
-pub returns-in_default : goal.returns-in_default
-returns-in_default g c = sym (ap (position (λ (s : Slotted g.row.G.Denot). nat_eq s.id c.args.id)) (sym c.self.view_is) ∙ unknown_number (get nat_cmp c.self.inside.lows) c.self.inside.slots.items c.args.id c.self.invariant (sym c.low_of.ensures ∙ c.in_default.is))
-
-pub place_of-requires : goal.place_of-requires
-place_of-requires g c = subst (Cover all_handles) (sym c.as_slice.ensures.value) (cover_from least_handle c.self.inside.slots.items c.self.invariant.cover)
-
-pub returns-in_default-place_of : goal.returns-in_default-place_of
-returns-in_default-place_of g c =
-    let at : get nat_cmp c.self.inside.lows c.args.id ≡ Some c.in-Some.low = sym c.low_of.ensures ∙ c.in-Some.is in
-    let fits : FitsSigned w64 c.in-Some.low = search (rules, c.low_of.type_inv, c.in-Some.is) in
-    let place : c.place_of.result ≡ position (λ (s : Slotted g.row.G.Denot). holds s.range c.in-Some.low) c.self.inside.slots.items =
-    c.place_of.ensures
-    ∙ ap (λ (x : ℤ). position (λ (s : Slotted g.row.G.Denot). holds s.range x) c.as_slice.result.now) (to_z-of_z w64 c.in-Some.low fits)
-    ∙ ap (position (λ (s : Slotted g.row.G.Denot). holds s.range c.in-Some.low)) c.as_slice.ensures.value in
-    sym (ap (position (λ (s : Slotted g.row.G.Denot). nat_eq s.id c.args.id)) (sym c.self.view_is) ∙ no_place (λ (s : Slotted g.row.G.Denot). nat_eq s.id c.args.id) (λ (s : Slotted g.row.G.Denot). holds s.range c.in-Some.low) c.self.inside.slots.items (holds_its_low (get nat_cmp c.self.inside.lows) c.self.inside.slots.items c.args.id c.in-Some.low c.self.invariant at) (sym place ∙ c.in_default-place_of.is))
-
-pub returns-then-id : goal.returns-then-id
-returns-then-id g c =
-    let at : get nat_cmp c.self.inside.lows c.args.id ≡ Some c.in-Some.low = sym c.low_of.ensures ∙ c.in-Some.is in
-    let fits : FitsSigned w64 c.in-Some.low = search (rules, c.low_of.type_inv, c.in-Some.is) in
-    let place : c.place_of.result ≡ position (λ (s : Slotted g.row.G.Denot). holds s.range c.in-Some.low) c.self.inside.slots.items =
-    c.place_of.ensures
-    ∙ ap (λ (x : ℤ). position (λ (s : Slotted g.row.G.Denot). holds s.range x) c.as_slice.result.now) (to_z-of_z w64 c.in-Some.low fits)
-    ∙ ap (position (λ (s : Slotted g.row.G.Denot). holds s.range c.in-Some.low)) c.as_slice.ensures.value in
-    let is : nat_eq (get_or c.self.inside.slots.items c.in-Some-place_of.place c.index.result.now).id c.args.id ≡ true = eq-eqb (get_or c.self.inside.slots.items c.in-Some-place_of.place c.index.result.now).id c.args.id (ap (λ (s : Slotted g.row.G.Denot). s.id) (sym c.index.ensures) ∙ sym c.id.ensures ∙ c.if-id.true) in
-    sym (ap (position (λ (s : Slotted g.row.G.Denot). nat_eq s.id c.args.id)) (sym c.self.view_is) ∙ same_place (λ (s : Slotted g.row.G.Denot). nat_eq s.id c.args.id) (λ (s : Slotted g.row.G.Denot). holds s.range c.in-Some.low) c.self.inside.slots.items (holds_its_low (get nat_cmp c.self.inside.lows) c.self.inside.slots.items c.args.id c.in-Some.low c.self.invariant at) c.in-Some-place_of.place c.index.result.now (sym place ∙ c.in-Some-place_of.is) is)
-
-pub returns : goal.returns
-returns g c =
-    let at : get nat_cmp c.self.inside.lows c.args.id ≡ Some c.in-Some.low = sym c.low_of.ensures ∙ c.in-Some.is in
-    let fits : FitsSigned w64 c.in-Some.low = search (rules, c.low_of.type_inv, c.in-Some.is) in
-    let place : c.place_of.result ≡ position (λ (s : Slotted g.row.G.Denot). holds s.range c.in-Some.low) c.self.inside.slots.items =
-    c.place_of.ensures
-    ∙ ap (λ (x : ℤ). position (λ (s : Slotted g.row.G.Denot). holds s.range x) c.as_slice.result.now) (to_z-of_z w64 c.in-Some.low fits)
-    ∙ ap (position (λ (s : Slotted g.row.G.Denot). holds s.range c.in-Some.low)) c.as_slice.ensures.value in
-    let out : nat_eq (get_or c.self.inside.slots.items c.in-Some-place_of.place c.index.result.now).id c.args.id ≡ false = ap (λ (s : Slotted g.row.G.Denot). nat_eq s.id c.args.id) (sym c.index.ensures) ∙ ap (λ (n : ℕ). nat_eq n c.args.id) (sym c.id.ensures) ∙ grind (arith, nat_tests, c.if-id.false) in
-    sym (ap (position (λ (s : Slotted g.row.G.Denot). nat_eq s.id c.args.id)) (sym c.self.view_is) ∙ other_number (get nat_cmp c.self.inside.lows) c.self.inside.slots.items c.args.id c.in-Some-place_of.place c.in-Some.low c.index.result.now c.self.invariant at (sym place ∙ c.in-Some-place_of.is) out)
+pub noted_place-requires-clause-noted : goal.noted_place-requires-clause-noted
+noted_place-requires-clause-noted g c = subst (AreNoted (get nat_cmp c.self.inside.lows)) (sym c.as_slice.ensures.value) (c.self.invariant.found c.if-self.true)

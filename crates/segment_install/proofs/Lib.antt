@@ -1,0 +1,13 @@
+pub mod Placed
+pub mod Alike
+pub mod Ready
+pub mod Tags
+pub mod Telling
+pub mod Making
+pub mod Orders
+pub mod Putting
+pub mod Running
+pub mod Sides
+pub mod Goods
+pub mod Whole
+pub mod News
