@@ -73,15 +73,17 @@ fn regions_text<D: Disk>(alloc: Global, store: &mut Store<D>) -> Option<String> 
     format!(in alloc; "regions {file} x{digits}").ok()
 }
 
-// All that is named but the region file.
-fn state_text(alloc: Global, state: &State) -> Option<String> {
+/// All that is named but the region file.
+pub fn state_text(alloc: Global, state: &State) -> Option<String> {
     let chain = hex::encode(alloc, &state.chain).ok()?;
     let segments = state.segments.list(alloc).ok()?;
     let next = state.next;
     let point = state.safe_point;
     let high = state.high;
     let count = state.count;
-    format!(in alloc; "next {next}, safe point {point}, high {high} x{chain}, count {count:?}, {segments:?}").ok()
+    format!(in alloc;
+        "next {next}, safe point {point}, high {high} x{chain}, count {count:?}, {segments:?}"
+    ).ok()
 }
 
 /// All that a store has named, with the bytes of its region file. None where they aren't there.

@@ -1,4 +1,5 @@
 // Disks that have what was given, as they are opened.
+use crate::opening::state_text;
 use flash_io::{Disk, DiskFault};
 use flash_mem::MemDisk;
 use manifest::open;
@@ -21,7 +22,10 @@ fn show_open<R: Print + AllocGlobal>(rt: &R, root: Option<&[u8]>, bytes: &[u8]) 
     };
     match open(rt.alloc(), &mut disk) {
         Ok(None) => println!(rt; "nothing committed"),
-        Ok(Some(manifest)) => println!(rt; "{:?}", manifest.state()),
+        Ok(Some(manifest)) => match state_text(rt.alloc(), manifest.state()) {
+            Some(text) => println!(rt; "{text}"),
+            None => println!(rt; "want of memory"),
+        },
         Err(error) => println!(rt; "{error:?}"),
     }
 }

@@ -76,10 +76,7 @@ pub fn run_script<R: Print + AllocGlobal>(rt: &R, script: &[&str]) -> io::Result
 
 // Does the script, and prints what each step leaves. It gives what is found before the store is
 // made and after each step; None where a step isn't done.
-fn show_script<R: Print + AllocGlobal>(
-    rt: &R,
-    script: &[&str],
-) -> io::Result<Option<Vec<String>>> {
+fn show_script<R: Print + AllocGlobal>(rt: &R, script: &[&str]) -> io::Result<Option<Vec<String>>> {
     let alloc = rt.alloc();
     let mut texts = Vec::new(alloc);
     texts.push(String::new(alloc))?;
