@@ -22,7 +22,7 @@ fn schema(alloc: Global) -> Result<Schema, AllocError> {
 }
 
 // Commits a safe point.
-fn point<D: Disk>(manifest: &mut Manifest, disk: &mut D, ts: u64) -> Result<(), CommitError>
+pub(crate) fn point<D: Disk>(manifest: &mut Manifest, disk: &mut D, ts: u64) -> Result<(), CommitError>
     requires steadied { manifest.old.steadied ≡ true }
     requires kept { IsKept (D.may_leave disk.old) manifest.old }
     ensures steadied { manifest.new.steadied ≡ true }
@@ -32,7 +32,7 @@ fn point<D: Disk>(manifest: &mut Manifest, disk: &mut D, ts: u64) -> Result<(), 
 }
 
 // Rolls a store that has numbers left.
-fn rolled<D: Disk>(manifest: &mut Manifest, disk: &mut D) -> Result<(), CommitError>
+pub(crate) fn rolled<D: Disk>(manifest: &mut Manifest, disk: &mut D) -> Result<(), CommitError>
     requires steadied { manifest.old.steadied ≡ true }
     requires kept { IsKept (D.may_leave disk.old) manifest.old }
     ensures steadied { OnOk result (manifest.new.steadied ≡ true) }
@@ -96,7 +96,7 @@ fn found<D: Disk>(alloc: Global, disk: &mut D) -> u64 {
 }
 
 // Makes a store, commits the safe point 7, and rolls where it is asked to.
-fn seven<D: Disk>(alloc: Global, disk: &mut D, rolls: bool) -> Result<(), CommitError>
+pub(crate) fn seven<D: Disk>(alloc: Global, disk: &mut D, rolls: bool) -> Result<(), CommitError>
     requires new { D.tells → IsNew (D.files disk.old) }
 {
     let schema = schema(alloc)?;
@@ -109,7 +109,7 @@ fn seven<D: Disk>(alloc: Global, disk: &mut D, rolls: bool) -> Result<(), Commit
 }
 
 // The safe point that an opening finds.
-fn safe_point<D: Disk>(alloc: Global, disk: &mut D) -> Option<u64> {
+pub(crate) fn safe_point<D: Disk>(alloc: Global, disk: &mut D) -> Option<u64> {
     match open(alloc, disk) {
         Ok(Some(manifest)) => Some(manifest.state().safe_point),
         _ => None,

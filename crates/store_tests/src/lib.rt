@@ -3,3 +3,6 @@
 
 #[cfg(test)]
 mod journal;
+
+#[cfg(test)]
+mod opening;
