@@ -1,10 +1,9 @@
 -- Plans that are made slot by slot, and put from the last one on.
 use Rattle.std.proofs.Common.{◌≡◌, ◌∙◌, ℕ, zero, suc, ◌+◌, ◌<◌, ◌≤◌, Bool, true, false, List, [], ◌∷◌, ◌++◌, length, map, take, drop, set, Option, Some, None, refl, sym, ap, subst, get_or, arith, add-one, append_assoc, append-nil, length-append}
-use Rattle.std.specs.Prelude.{slice_get, ◌||◌}
-use Rattle.std.specs.List.{AllByRecursion, filter_map, list_any}
+use Rattle.std.specs.Prelude.{slice_get}
+use Rattle.std.specs.List.{AllByRecursion, filter_map}
 use Rattle.std.proofs.lemmas.List.{map-append, take_all}
 use Rattle.std.proofs.lemmas.List.Elements.{filter_map-append}
-use Rattle.std.proofs.lemmas.List.Folds.{list_any-append}
 use Rattle.column_file.specs.declared.file.ColumnFile.{ColumnFile}
 use Rattle.segment_list.specs.Flushes.{after_file, flushed_files, flushed_slot}
 use Rattle.segment_list.specs.Slots.{Slotted}
@@ -109,37 +108,6 @@ last_plan p n slots k s rest last h e = last_both rest (take k (plans_of p n slo
 
 pub names_more : (files : List ColumnFile) (i : ℕ) (f : ColumnFile) → slice_get files i ≡ Some f → filter_map name_of (take (i + 1) files) ≡ filter_map name_of (take i files) ++ filter_map name_of (f ∷ [])
 names_more files i f h = rw add-one (ap (filter_map name_of) (one_more files i f h)) ∙ filter_map-append name_of (take i files) (f ∷ [])
-
-or_any_right : (a b : Bool) → b ≡ true → (a || b) ≡ true
-or_any_right true b e = refl
-or_any_right false b e = e
-
-or_any_left : (a b : Bool) → a ≡ true → (a || b) ≡ true
-or_any_left true b e = refl
-or_any_left false b e = absurd (cc e)
-
--- what one of the first files is named passes a test
-pub name_here : (q : StoredFile → Bool) (files : List ColumnFile) (named i : ℕ) (f : ColumnFile) → i < named → slice_get files i ≡ Some f → list_any q (filter_map name_of (f ∷ [])) ≡ true → list_any q (filter_map name_of (take named files)) ≡ true
-name_here q [] named i f lt h is = absurd (cc h)
-name_here q (g ∷ gs) zero i f lt h is = absurd (omega (arith, lt))
-name_here q (g ∷ gs) (suc named) zero f lt h is =
-    let same : g ≡ f = cc h in
-    ap (list_any q) (filter_map-append name_of (g ∷ []) (take named gs)) ∙ list_any-append q (filter_map name_of (g ∷ [])) (filter_map name_of (take named gs))
-    ∙ or_any_left (list_any q (filter_map name_of (g ∷ []))) _ (ap (λ (u : ColumnFile). list_any q (filter_map name_of (u ∷ []))) same ∙ is)
-name_here q (g ∷ gs) (suc named) (suc i) f lt h is =
-    ap (list_any q) (filter_map-append name_of (g ∷ []) (take named gs)) ∙ list_any-append q (filter_map name_of (g ∷ [])) (filter_map name_of (take named gs))
-    ∙ or_any_right (list_any q (filter_map name_of (g ∷ []))) _ (name_here q gs named i f (omega (arith, lt)) h is)
-
-pub name_not_here : (q : StoredFile → Bool) (files : List ColumnFile) (i : ℕ) (f : ColumnFile) → slice_get files i ≡ Some f → list_any q (filter_map name_of (f ∷ [])) ≡ false → list_any q (filter_map name_of (take i files)) ≡ false → list_any q (filter_map name_of (take (i + 1) files)) ≡ false
-name_not_here q files i f h out none =
-    ap (list_any q) (names_more files i f h) ∙ list_any-append q (filter_map name_of (take i files)) (filter_map name_of (f ∷ []))
-    ∙ ap (λ (b : Bool). b || list_any q (filter_map name_of (f ∷ []))) none ∙ out
-
--- one of the slots passes a test by what is stored of it
-pub stored_here : {G : Type 0} (q : StoredSegment → Bool) (slots : List (Slotted G)) (i : ℕ) (s : Slotted G) → slice_get slots i ≡ Some s → q (stored_of s) ≡ true → list_any q (map stored_of slots) ≡ true
-stored_here q [] i s h is = absurd (cc h)
-stored_here q (t ∷ ts) zero s h is = let same : t ≡ s = cc h in or_any_left (q (stored_of t)) _ (ap (λ (u : Slotted _). q (stored_of u)) same ∙ is)
-stored_here q (t ∷ ts) (suc i) s h is = or_any_right (q (stored_of t)) _ (stored_here q ts i s h is)
 
 pub set_same : {X : Type 0} (xs : List X) (i : ℕ) (x : X) → slice_get xs i ≡ Some x → set xs i x ≡ xs
 set_same [] i x h = absurd (cc h)

@@ -18,7 +18,3 @@ module _ {G : Type 0} where
   -- a segment with the files that are named
   abbrev pub stored_of : Slotted G → StoredSegment
   stored_of s = record { id = s.id; range = s.range; stable = s.stable_number; delta = filter_map name_of (take s.named s.files) }
-
-  -- a segment with all of these files
-  abbrev pub stored_with : Slotted G → StoredSegment
-  stored_with s = record { id = s.id; range = s.range; stable = s.stable_number; delta = filter_map name_of s.files }

@@ -8,6 +8,6 @@ mod plans;
 mod puts;
 
 pub use laws::{flushed_slots_are_renewed, one_slot_is_flushed};
-pub use names::{names_file, stored};
+pub use names::stored;
 pub use plans::{Plan, has_more, plan_all};
 pub use puts::{append_segments, put_all};

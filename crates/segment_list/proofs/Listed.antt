@@ -153,19 +153,10 @@ module _ {G : Type 0} where
   pub segments_stay : (low_of : ℕ → Option ℤ) (noted : Bool) (new old : List (Slotted G)) → map key_of new ≡ map key_of old → AreSegments low_of noted old → AreSegments low_of noted new
   segments_stay low_of noted new old same are = record {
     cover = subst (CoversFrom least_handle) (by_keys old ∙ ap (map of_key) (sym same) ∙ sym (by_keys new)) are.cover;
-    found = λ k d lt.
-        let one : key_of (get_or new k d) ≡ key_of (get_or old k d) = sym (get_or-map key_of new k d) ∙ ap (λ (ks : List (ℕ × HandleRange)). get_or ks k (key_of d)) same ∙ get_or-map key_of old k d in
-        let within : k < length old = omega (arith, lt, sym (length-map new key_of) ∙ ap length same ∙ length-map old key_of) in
-        ap low_of (ap (λ (q : ℕ × HandleRange). q.0) one) ∙ are.found k d within ∙ ap (λ (q : ℕ × HandleRange). Some q.1.low) (sym one);
-    differ = λ i j d less lt together.
-        let within : j < length old = omega (arith, lt, sym (length-map new key_of) ∙ ap length same ∙ length-map old key_of) in
-        are.differ i j d less within (sym (id_stays i d) ∙ together ∙ id_stays j d);
-  }
-    where
-      id_stays : (k : ℕ) (d : Slotted G) → (get_or new k d).id ≡ (get_or old k d).id
-      id_stays k d = ap (λ (q : ℕ × HandleRange). q.0) (sym (get_or-map key_of new k d) ∙ ap (λ (ks : List (ℕ × HandleRange)). get_or ks k (key_of d)) same ∙ get_or-map key_of old k d)
     numbers = λ i j d less lt e. are.numbers i j d less (within j lt) (sym (ap (λ (q : ℕ × HandleRange). q.0) (one i d)) ∙ e ∙ ap (λ (q : ℕ × HandleRange). q.0) (one j d));
     found = λ yes k d lt. ap low_of (ap (λ (q : ℕ × HandleRange). q.0) (one k d)) ∙ are.found yes k d (within k lt) ∙ sym (ap (λ (q : ℕ × HandleRange). Some q.1.low) (one k d));
+  }
+    where
       one : (k : ℕ) (d : Slotted G) → key_of (get_or new k d) ≡ key_of (get_or old k d)
       one k d = sym (get_or-map key_of new k d) ∙ ap (λ (ks : List (ℕ × HandleRange)). get_or ks k (key_of d)) same ∙ get_or-map key_of old k d
       within : (k : ℕ) → k < length new → k < length old

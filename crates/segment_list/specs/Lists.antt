@@ -1,6 +1,4 @@
 -- Slots that stand side by side.
-use Rattle.std.specs.Prelude.{◌≡◌, ◌≢◌, ℕ, ℤ, true, false, Bool, ◌||◌, Option, Some, List, [], ◌∷◌, IsTrue, is_some, map}
-use Rattle.std.specs.List.{All, AllPairs}
 use Rattle.std.specs.Prelude.{◌≡◌, ◌≢◌, ◌==◌, ◌+◌, ℕ, ℤ, true, false, Bool, ◌||◌, Option, Some, None, List, [], ◌∷◌, ◌++◌, IsTrue, drop, is_some, map, take}
 use Rattle.std.specs.List.{All, AllPairs, list_any}
 use Rattle.column_block.specs.declared.cell.Version.{Version}
@@ -31,11 +29,6 @@ says_of range clears adds = is_some (cleared_file range clears) || is_some (adde
 abbrev pub range_alone : {G : Type 0} → Slotted G → Segment
 range_alone s = of_parts s.range [] []
 
--- The slots cover all handles, their numbers differ, and for the number of each it is known where the slot begins.
-pub record AreSegments {G : Type 0} (low_of : ℕ → Option ℤ) (slots : List (Slotted G)) : Type 0 where
-  pub cover : CoversFrom least_handle (map range_alone slots)
-  pub found : All (λ (s : Slotted G). low_of s.id ≡ Some s.range.low) slots
-  pub differ : AllPairs (λ (s t : Slotted G). s.id ≢ t.id) slots
 -- no two of the slots have the same number
 abbrev pub NumbersDiffer : {G : Type 0} → List (Slotted G) → Type 0
 NumbersDiffer {G} slots = AllPairs (λ (s t : Slotted G). s.id ≢ t.id) slots
@@ -51,6 +44,7 @@ pub record HaveNoted {G : Type 0} (old new : ℕ → Option ℤ) (slots : List (
 
 -- The slots cover all handles, their numbers differ, and where all of them are noted it is known for the number of each where the slot begins.
 pub record AreSegments {G : Type 0} (low_of : ℕ → Option ℤ) (all_noted : Bool) (slots : List (Slotted G)) : Type 0 where
+  pub cover : CoversFrom least_handle (map range_alone slots)
   pub numbers : NumbersDiffer slots
   pub found : all_noted ≡ true → AreNoted low_of slots
 

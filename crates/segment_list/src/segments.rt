@@ -233,7 +233,6 @@ impl<G: Drop> SegmentList<G> {
 
     /// That no two segments have the same number. It does nothing when it runs.
     pub fn numbers_differ(&self)
-        ensures { AllPairs (λ s t. s.id ≢ t.id) self.now }
         ensures { NumbersDiffer self.now }
     {
         let _slots = &self.slots;

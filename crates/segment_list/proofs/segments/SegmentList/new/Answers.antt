@@ -7,8 +7,6 @@ use Rattle.segment_list.proofs.segments.SegmentList.new.Goals as goal
 pub invariant_of-result : goal.invariant_of-result
 invariant_of-result g c = record {
   cover = c.requires.cover;
-  found = subst (λ (slots : List (Slotted g.row.G.Denot)). All (λ (s : Slotted g.row.G.Denot). get nat_cmp c.in_ok-lows.lows s.id ≡ Some s.range.low) slots) c.as_slice.ensures.value c.in_ok-lows.ensures;
-  differ = c.requires.numbers;
   numbers = c.requires.numbers;
   found = λ yes. subst (AreNoted (get nat_cmp c.in_ok-lows.lows)) c.as_slice.ensures.value c.in_ok-lows.ensures;
 }
