@@ -9,6 +9,3 @@ mod work;
 
 pub use builds::build;
 pub use work::{Work, begin};
-
-#[cfg(test)]
-mod tests;
