@@ -10,6 +10,3 @@ mod work;
 pub use builds::build;
 pub use runs::first_run;
 pub use work::{Work, begin};
-
-#[cfg(test)]
-mod tests;
