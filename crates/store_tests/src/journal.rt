@@ -22,7 +22,11 @@ fn schema(alloc: Global) -> Result<Schema, AllocError> {
 }
 
 // Commits a safe point.
-pub(crate) fn point<D: Disk>(manifest: &mut Manifest, disk: &mut D, ts: u64) -> Result<(), CommitError>
+pub(crate) fn point<D: Disk>(
+    manifest: &mut Manifest,
+    disk: &mut D,
+    ts: u64,
+) -> Result<(), CommitError>
     requires steadied { manifest.old.steadied ≡ true }
     requires kept { IsKept (D.may_leave disk.old) manifest.old }
     ensures steadied { manifest.new.steadied ≡ true }
