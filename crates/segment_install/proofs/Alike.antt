@@ -1,7 +1,7 @@
 -- New slots have the handles of those that they take the place of.
-use Rattle.std.proofs.Common.{◌≡◌, ◌∙◌, refl, sym, ap, subst, ℤ, Bool, true, int_le, int_lt, Option, Some, None, List, [], ◌∷◌, arith}
+use Rattle.std.proofs.Common.{◌≡◌, ◌∙◌, refl, sym, ap, ℤ, true, int_le, int_lt, Option, Some, None, [], ◌∷◌, arith}
 use Rattle.std.proofs.lemmas.Int.{ints}
-use Rattle.flash_types.specs.Ranges.{has_any, holds, is_below}
+use Rattle.flash_types.specs.Ranges.{has_any, is_below}
 use Rattle.flash_types.specs.declared.range.HandleRange.{HandleRange}
 use Rattle.segment_list.specs.Lists.{CoverAlike}
 use Rattle.segment_list.specs.Slots.{Slotted}

@@ -11,3 +11,4 @@ pub mod Sides
 pub mod Goods
 pub mod Whole
 pub mod News
+pub mod Carried

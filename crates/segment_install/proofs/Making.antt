@@ -1,12 +1,11 @@
 -- What was built is what its job makes.
-use Rattle.std.proofs.Common.{◌≡◌, ◌∙◌, refl, sym, ap, subst, ℕ, List, [], ◌∷◌}
+use Rattle.std.proofs.Common.{◌≡◌, ◌∙◌, refl, sym, ℕ, List, [], ◌∷◌}
 use Rattle.column_block.specs.declared.column.Column.{Column}
 use Rattle.delta_layer.specs.Built.{AreTwo, IsOne, IsSegment}
 use Rattle.delta_layer.specs.declared.built.Built.{Built}
 use Rattle.delta_layer.specs.declared.built.Job.{Job}
 use Rattle.delta_layer.specs.declared.built.Job.TheVariants.{Compact, MergeDelta, Split, Merge}
 use Rattle.delta_layer.specs.declared.built.Piece.{Piece}
-use Rattle.delta_layer.specs.declared.view.SegmentView.{SegmentView}
 use Rattle.segment_laws.specs.Jobs.{FromCompact, FromDeltaMerge, FromMerge, FromSplit, IsBuilt, IsBuiltBy, IsRun}
 use Rattle.segment_install.specs.Plans.{AreHalvesBuilt, IsBothBuilt, IsBuiltFor, IsOneBuilt, IsRunBuilt}
 

@@ -1,5 +1,5 @@
 -- What the code makes of a plan's parts.
-use Rattle.std.proofs.Common.{◌≡◌, ◌∙◌, refl, sym, ap, subst, ℕ, zero, suc, ◌+◌, ◌-◌, ◌<◌, ◌≤◌, Option, Some, None, List, [], ◌∷◌, ◌++◌, length, take, drop, get_or, nat_eq, arith}
+use Rattle.std.proofs.Common.{◌≡◌, ◌∙◌, refl, sym, ap, subst, ℕ, suc, ◌+◌, ◌<◌, ◌≤◌, Option, Some, None, List, [], ◌∷◌, ◌++◌, length, get_or, nat_eq, arith}
 use Rattle.std.specs.Prelude.{IfSome, position, slice_get}
 use Rattle.std.specs.List.{AllByRecursion}
 use Rattle.std.proofs.lemmas.List.{append_assoc}
@@ -17,11 +17,11 @@ use Rattle.segment_list.specs.Slots.{Gathered, Slotted}
 use Rattle.segment_work.specs.Jobs.{segment_of}
 use Rattle.segment_install.specs.Plans.{AreHalves, AreHalvesBuilt, CanInstall, CanInstallAt, IsBothBuilt, IsBuiltFor, IsCompacted, IsJoined, IsLaid, IsMerged, IsOneBuilt, IsRunBuilt, part_of}
 use Rattle.segment_install.specs.Slots.{Fits, compacted_slot, half_slot, joined_slot, merged_slot}
-use Rattle.segment_install.specs.Stale.{first_fault, slot_of}
+use Rattle.segment_install.specs.Stale.{first_fault}
 use Rattle.segment_install.specs.declared.part.Files.{Files}
 use Rattle.segment_install.specs.declared.part.Part.{Part}
 use Rattle.segment_install.proofs.Placed.{found_none}
-use Rattle.segment_install.proofs.Ready.{IsThere, first_there}
+use Rattle.segment_install.proofs.Ready.{first_there}
 use Rattle.segment_install.proofs.Running.{one_run, run_can, run_named, run_tinies}
 
 pub stands_there : {X : Type 0} (xs : List X) (k : ℕ) (x : X) → k < length xs → x ≡ get_or xs k x → slice_get xs k ≡ Some x
@@ -93,6 +93,7 @@ module _ {G : Type 0} where
     where
       at_seg : (job : Job) (seg : ℕ) → built.job ≡ job → segment_of job ≡ seg → position (λ (t : Slotted G). nat_eq t.id seg) slots ≡ None
       at_seg job seg e f = sym (ap (λ (n : ℕ). position (λ (t : Slotted G). nat_eq t.id n) slots) (ap segment_of e ∙ f)) ∙ none
+
       by : (job : Job) → built.job ≡ job → IsBuiltFor job built → ⊥
       by (Compact seg) e is = no_slot slots is.view [] (sym (ap (first_fault slots) is.views) ∙ can.fresh) (at_seg (Compact seg) is.view.seg e (sym is.number))
       by (MergeDelta seg) e is = no_slot slots is.view [] (sym (ap (first_fault slots) is.views) ∙ can.fresh) (at_seg (MergeDelta seg) is.view.seg e (sym is.number))

@@ -1,7 +1,7 @@
 -- Slots that are in order give way to slots that are.
-use Rattle.std.proofs.Common.{◌≡◌, ◌∙◌, refl, sym, ap, subst, ℕ, zero, suc, ◌+◌, ◌-◌, ◌<◌, ◌≤◌, Bool, true, false, cond, Option, Some, None, List, [], ◌∷◌, ◌++◌, length, map, take, drop, arith}
-use Rattle.std.specs.Prelude.{filter, slice_range}
-use Rattle.std.specs.List.{AllByRecursion, flat_map}
+use Rattle.std.proofs.Common.{◌≡◌, ◌∙◌, refl, sym, ap, subst, ℕ, zero, suc, ◌+◌, ◌-◌, ◌<◌, ◌≤◌, Bool, true, false, cond, Option, List, [], ◌∷◌, ◌++◌, length, map, take, drop, arith}
+use Rattle.std.specs.Prelude.{filter}
+use Rattle.std.specs.List.{AllByRecursion}
 use Rattle.std.proofs.Math.Seq.{drop-append-add, drop-append_seam, take-append-add, take-append_seam}
 use Rattle.std.proofs.lemmas.List.{length-append, length-drop, length-map, length-take-le}
 use Rattle.column_block.specs.declared.cell.Version.{Version}
@@ -10,7 +10,7 @@ use Rattle.column_file.specs.declared.file.ColumnFile.TheVariants.{Mem, Tiny, De
 use Rattle.delta_layer.specs.Files.{is_mem, is_tiny}
 use Rattle.flash_types.specs.declared.range.HandleRange.{HandleRange}
 use Rattle.segment_list.specs.Order.{IsSlot, LiesIn}
-use Rattle.segment_list.specs.Slots.{Slotted, clip_file, clip_files, clip_pair, clip_pairs, file_in, file_speaks, is_in, kept, pair_speaks, pairs_of, tag_in}
+use Rattle.segment_list.specs.Slots.{Slotted, clip_file, clip_pair, file_in, file_speaks, is_in, pair_speaks, pairs_of, tag_in}
 use Rattle.segment_list.proofs.Gathers.{tiny_same}
 use Rattle.segment_list.proofs.Replacing.{drop_again, take_again}
 use Rattle.segment_install.specs.Slots.{Rest, both_rests, clip_rest, compacted_slot, half_slot, joined_slot, merged_slot, new_slot, rest_of}
@@ -66,7 +66,7 @@ pairs_tags P [] files all = tt
 pairs_tags P (t ∷ ts) [] all = tt
 pairs_tags P (t ∷ ts) (f ∷ fs) all = (all.0, pairs_tags P ts fs all.1)
 
-pairs_files : (P : ColumnFile → Type 0) (tags : List ℕ) (files : List ColumnFile) → AllByRecursion P files → AllByRecursion (λ (q : ℕ × ColumnFile). P q.1) (pairs_of tags files)
+pub pairs_files : (P : ColumnFile → Type 0) (tags : List ℕ) (files : List ColumnFile) → AllByRecursion P files → AllByRecursion (λ (q : ℕ × ColumnFile). P q.1) (pairs_of tags files)
 pairs_files P [] files all = tt
 pairs_files P (t ∷ ts) [] all = tt
 pairs_files P (t ∷ ts) (f ∷ fs) all = (all.0, pairs_files P ts fs all.1)

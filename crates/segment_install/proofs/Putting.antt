@@ -1,9 +1,8 @@
 -- What is planned can be put.
-use Rattle.std.proofs.Common.{◌≡◌, ◌≢◌, ◌∙◌, refl, sym, ap, subst, ℕ, zero, suc, ◌+◌, ◌-◌, ◌<◌, ◌≤◌, Option, Some, None, List, [], ◌∷◌, ◌++◌, length, map, take, drop, get_or, nat_eq, arith}
-use Rattle.std.specs.Prelude.{position, slice_get, vec_capacity, vec_len}
+use Rattle.std.proofs.Common.{◌≡◌, ◌≢◌, ◌∙◌, refl, sym, ap, subst, ℕ, zero, suc, ◌+◌, ◌<◌, ◌≤◌, Some, List, [], ◌∷◌, ◌++◌, length, take, drop, get_or, arith}
+use Rattle.std.specs.Prelude.{slice_get, vec_capacity, vec_len}
 use Rattle.std.specs.List.{AllByRecursion}
 use Rattle.std.proofs.lemmas.List.{length-append, length-drop, length-take-le}
-use Rattle.std.proofs.lemmas.Option.{slice_get-get_or}
 use Rattle.delta_layer.specs.Built.{AreTwo, IsOne}
 use Rattle.delta_layer.specs.declared.built.Built.{Built}
 use Rattle.delta_layer.specs.declared.built.Job.{Job}
@@ -12,7 +11,7 @@ use Rattle.delta_layer.specs.declared.view.SegmentView.{SegmentView}
 use Rattle.segment_list.specs.Lists.{CoverAlike, NumbersDiffer, with_slots}
 use Rattle.segment_list.specs.Slots.{Slotted}
 use Rattle.segment_work.specs.Begun.{segments_for}
-use Rattle.segment_install.specs.Plans.{AreHalves, AreInstalled, CanInstall, CanInstallAt, CanPut, IsCompacted, IsJoined, IsLaid, IsMerged, part_of}
+use Rattle.segment_install.specs.Plans.{AreHalves, AreInstalled, CanInstallAt, CanPut, IsCompacted, IsJoined, IsMerged, part_of}
 use Rattle.column_file.specs.declared.file.ColumnFile.TheVariants.{Tiny}
 use Rattle.segment_install.specs.Slots.{Fits, compacted_slot, half_slot, joined_slot, merged_slot}
 use Rattle.segment_install.specs.declared.part.Files.{Files}

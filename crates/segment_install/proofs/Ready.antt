@@ -1,10 +1,9 @@
 -- What was built can be installed where its job's segment stands.
-use Rattle.std.proofs.Common.{◌≡◌, ◌≢◌, ◌∙◌, refl, sym, ap, subst, ℕ, zero, suc, ◌+◌, ◌<◌, ◌≤◌, ℤ, Bool, true, false, true≢false, cond, nat_eq, Option, Some, None, List, [], ◌∷◌, length, map, get_or, arith}
-use Rattle.std.specs.Prelude.{find, is_some, option_map, position, slice_get}
+use Rattle.std.proofs.Common.{◌≡◌, ◌∙◌, refl, sym, ap, subst, ℕ, zero, suc, ◌+◌, ◌<◌, ◌≤◌, Bool, true, false, cond, nat_eq, Option, Some, None, List, [], ◌∷◌, length, map, get_or, arith}
+use Rattle.std.specs.Prelude.{is_some, option_map, position, slice_get}
 use Rattle.std.specs.List.{AllByRecursion}
-use Rattle.std.proofs.lemmas.Bool.{eqb-true, eq-eqb}
+use Rattle.std.proofs.lemmas.Bool.{eqb-true}
 use Rattle.std.proofs.lemmas.List.Quantifiers.{position-Some}
-use Rattle.std.proofs.lemmas.Option.{slice_get-get_or}
 use Rattle.flash_types.specs.Ranges.{has_any, holds, least_handle}
 use Rattle.good_replica.specs.Good.{CoversFrom}
 use Rattle.delta_layer.specs.declared.built.Built.{Built}

@@ -147,6 +147,7 @@ run_of_front some rest from to run none = record {
   where
     front : (k : ℕ) → k < length some → tiny_at_place (some ++ rest) k ≡ tiny_at_place some k
     front k lt = ap tiny_in (get_front some rest k lt)
+
     by : (t : Bool) → nat_lt to (length some) ≡ t → tiny_at_place (some ++ rest) to ≡ false
     by true e = front to (under to (length some) e) ∙ run.ends
     by false e = (

@@ -1,5 +1,5 @@
 -- What a view took of a slot, and what came since, with their counts.
-use Rattle.std.proofs.Common.{◌≡◌, ◌⊎◌, ◌∙◌, inl, inr, refl, sym, ap, subst, ℕ, zero, suc, ◌+◌, ◌-◌, ◌<◌, ◌≤◌, Some, None, Option, List, [], ◌∷◌, ◌++◌, length, map, take, drop, replicate, arith}
+use Rattle.std.proofs.Common.{◌≡◌, ◌⊎◌, ◌∙◌, inl, inr, refl, sym, ap, subst, ℕ, zero, suc, ◌-◌, ◌<◌, ◌≤◌, List, [], ◌∷◌, ◌++◌, length, map, take, drop, replicate, arith}
 use Rattle.std.specs.List.{AllByRecursion}
 use Rattle.std.proofs.Math.Seq.{take-append_seam}
 use Rattle.std.proofs.lemmas.List.{length-append, length-replicate}
@@ -8,7 +8,7 @@ use Rattle.delta_layer.specs.Files.{file_of, files_of}
 use Rattle.delta_layer.specs.declared.view.SegmentView.{SegmentView}
 use Rattle.good_replica.specs.Trail.{DeltaFile}
 use Rattle.prefix_laws.specs.Tagged.{Tagged, file_in}
-use Rattle.prefix_laws.specs.Views.{AreBy, IsTaken, IsTakenAt}
+use Rattle.prefix_laws.specs.Views.{AreBy, IsTakenAt}
 use Rattle.prefix_laws.proofs.Counts.{middle, middle_by, middle_high, middle_later, middle_low}
 use Rattle.segment_list.specs.Order.{IsSlot}
 use Rattle.segment_list.specs.Slots.{Slotted, IsTagged, tagged, tags_of}

@@ -1,6 +1,6 @@
 -- What the slots of an install say.
-use Rattle.std.proofs.Common.{◌≡◌, ◌∙◌, refl, sym, ap, ℕ, suc, ◌+◌, ◌-◌, ◌≤◌, List, [], ◌∷◌, ◌++◌, Option, length, map, take, drop, replicate, arith}
-use Rattle.std.proofs.lemmas.List.{append_assoc, length-append, length-drop, length-replicate, length-take-le, map-append, take-append-drop}
+use Rattle.std.proofs.Common.{◌≡◌, ◌∙◌, sym, ap, ℕ, suc, ◌+◌, ◌-◌, ◌≤◌, List, ◌∷◌, ◌++◌, Option, length, map, take, drop, replicate, arith}
+use Rattle.std.proofs.lemmas.List.{append_assoc, length-drop, length-replicate, length-take-le, map-append, take-append-drop}
 use Rattle.column_block.specs.declared.cell.Version.{Version}
 use Rattle.column_file.specs.declared.file.ColumnFile.{ColumnFile}
 use Rattle.column_file.specs.declared.file.ColumnFile.TheVariants.{Tiny}
@@ -11,11 +11,11 @@ use Rattle.prefix_laws.specs.Clipped.{clip}
 use Rattle.prefix_laws.specs.Tagged.{Tagged, tagged_of}
 use Rattle.segment_laws.specs.Given.{both_of, half_of}
 use Rattle.segment_laws.specs.Runs.{run_of, with_run}
-use Rattle.segment_list.specs.Slots.{Slotted, IsTagged, clip_pairs, file_in, pairs_of, tag_in, tagged, tags_of, told_of, told_one}
+use Rattle.segment_list.specs.Slots.{Slotted, IsTagged, clip_pairs, file_in, tag_in, tagged, tags_of, told_of, told_one}
 use Rattle.segment_list.proofs.GatheredLaw.{both_told, pairs_told, told_pairs}
 use Rattle.segment_list.proofs.Telling.{clip_pairs_say}
 use Rattle.segment_install.specs.declared.part.Part.{Part}
-use Rattle.segment_install.specs.Slots.{Rest, both_rests, clip_rest, compacted_slot, half_slot, joined_slot, merged_slot, new_slot, rest_of}
+use Rattle.segment_install.specs.Slots.{Rest, both_rests, clip_rest, compacted_slot, half_slot, joined_slot, merged_slot, rest_of}
 use Rattle.segment_install.specs.Told.{all_told, rest_told, side_of}
 use Rattle.segment_install.proofs.Tags.{clip_both, drop_tags, named_both, named_clip, named_told, noughts, tagged_drop, tagged_take, take_tags}
 

@@ -1,5 +1,5 @@
 -- What installs keep, by cases on the job.
-use Rattle.std.proofs.Common.{◌≡◌, ◌∙◌, refl, sym, ap, subst, ℕ, zero, suc, ◌+◌, ◌-◌, ◌<◌, ◌≤◌, Bool, true, false, ◌&&◌, int_le, int_lt, ℤ, Option, Some, None, Ok, List, [], ◌∷◌, ◌++◌, length, map, take, drop, nat_eq, arith}
+use Rattle.std.proofs.Common.{◌≡◌, ◌∙◌, refl, sym, ap, subst, ℕ, suc, ◌+◌, ◌-◌, ◌<◌, ◌≤◌, Bool, true, ◌&&◌, int_le, int_lt, ℤ, Option, Some, None, Ok, List, [], ◌∷◌, ◌++◌, length, map, take, drop, arith}
 use Rattle.std.specs.Prelude.{slice_get, slice_range}
 use Rattle.std.specs.List.{AllByRecursion, flat_map}
 use Rattle.std.proofs.lemmas.Int.{ints}
@@ -14,14 +14,12 @@ use Rattle.delta_layer.specs.Stable.{stable_in}
 use Rattle.delta_layer.specs.declared.built.Built.{Built}
 use Rattle.delta_layer.specs.declared.built.Job.{Job}
 use Rattle.delta_layer.specs.declared.built.Job.TheVariants.{Compact, MergeDelta, Split, Merge}
-use Rattle.delta_layer.specs.declared.built.Piece.{Piece}
 use Rattle.delta_layer.specs.declared.view.SegmentView.{SegmentView}
 use Rattle.flash_types.specs.Ranges.{is_below, least_handle}
 use Rattle.flash_types.specs.declared.range.HandleRange.{HandleRange}
 use Rattle.good_replica.specs.Good.{CoversFrom}
 use Rattle.prefix_laws.specs.Tagged.{TaggedSegment}
 use Rattle.segment_laws.specs.Jobs.{FromDeltaMerge, FromMerge, FromSplit, IsBuiltBy}
-use Rattle.segment_laws.specs.Runs.{run_of}
 use Rattle.segment_laws.proofs.Contracts.{delta_merge_gives, merge_gives, split_gives}
 use Rattle.segment_list.specs.Laws.{told_by}
 use Rattle.segment_list.specs.Lists.{range_alone, with_slots}
@@ -196,6 +194,7 @@ module _ {G : Type 0} (P : List TaggedSegment → Type 0) (tells : Type 0) (byte
         where
           first_same : {a b c d : Slotted G} → ◌≡◌ {A = List (Slotted G)} (a ∷ b ∷ []) (c ∷ d ∷ []) → a ≡ c
           first_same e = cc e
+
           second_same : {a b c d : Slotted G} → ◌≡◌ {A = List (Slotted G)} (a ∷ b ∷ []) (c ∷ d ∷ []) → b ≡ d
           second_same e = cc e
 
@@ -293,11 +292,13 @@ module _ {G : Type 0} (committed last first : ℕ) (files : Files G) (built : Bu
       let high : two.right ≡ t = second_same (sym two.olds ∙ are) in
       let left_fits : Fits is.of.left s = subst (Fits is.of.left) low two.left_fits in
       let right_fits : Fits is.of.right t = subst (Fits is.of.right) high two.right_fits in
-      subst (AllByRecursion (IsSlot committed last)) (sym is.are)
-      (joined_in_order committed last (first + 1) is.of.piece.range (part_of first files.low) (length is.of.left.delta) s (length is.of.right.delta) t
-      (λ v inside. ap (λ (r : HandleRange). is_in r v) is.of.range ∙ in_left is.of.left.range is.of.right.range v is.of.touch (sym (ap (λ (r : HandleRange). is_in r v) left_fits.range) ∙ inside))
-      (λ v inside. ap (λ (r : HandleRange). is_in r v) is.of.range ∙ in_right is.of.left.range is.of.right.range v is.of.touch (sym (ap (λ (r : HandleRange). is_in r v) right_fits.range) ∙ inside))
-      (subst (IsSlot committed last) low (slot_at install.place two.left two.left_there)) (subst (IsSlot committed last) high (slot_at (install.place + 1) two.right two.right_there)), tt)
+      subst (AllByRecursion (IsSlot committed last)) (sym is.are) (
+        joined_in_order committed last (first + 1) is.of.piece.range (part_of first files.low) (length is.of.left.delta) s (length is.of.right.delta) t
+            (λ v inside. ap (λ (r : HandleRange). is_in r v) is.of.range ∙ in_left is.of.left.range is.of.right.range v is.of.touch (sym (ap (λ (r : HandleRange). is_in r v) left_fits.range) ∙ inside))
+            (λ v inside. ap (λ (r : HandleRange). is_in r v) is.of.range ∙ in_right is.of.left.range is.of.right.range v is.of.touch (sym (ap (λ (r : HandleRange). is_in r v) right_fits.range) ∙ inside))
+            (subst (IsSlot committed last) low (slot_at install.place two.left two.left_there)) (subst (IsSlot committed last) high (slot_at (install.place + 1) two.right two.right_there)),
+        tt,
+      )
 
   pub install_in_order : AllByRecursion (IsSlot committed last) (slots_after install slots)
   install_in_order =

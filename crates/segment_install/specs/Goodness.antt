@@ -15,7 +15,7 @@ use Rattle.delta_layer.specs.declared.view.SegmentView.{SegmentView}
 use Rattle.flash_types.specs.Ranges.{least_handle}
 use Rattle.good_replica.specs.Good.{AreGood, CoversFrom}
 use Rattle.prefix_laws.specs.Prefixes.{ArePrefixesGood, AreSteps}
-use Rattle.prefix_laws.specs.Tagged.{TaggedSegment, content}
+use Rattle.prefix_laws.specs.Tagged.{content}
 use Rattle.segment_laws.specs.Jobs.{IsBuilt}
 use Rattle.segment_list.specs.Laws.{told_by}
 use Rattle.segment_list.specs.Lists.{range_alone, with_slots}

@@ -1,9 +1,7 @@
 -- The slots that take the place of a segment's or of two, by the work that built them.
-use Rattle.std.specs.Prelude.{◌≡◌, ℕ, ◌+◌, ◌-◌, ◌<◌, ◌≤◌, false, Option, Some, None, List, [], ◌∷◌, ◌++◌, length, map, take, drop}
+use Rattle.std.specs.Prelude.{◌≡◌, ℕ, ◌+◌, ◌-◌, ◌<◌, ◌≤◌, false, Option, Some, None, List, ◌++◌, length, map, take, drop}
 use Rattle.std.specs.List.{AllByRecursion}
-use Rattle.column_block.specs.declared.cell.Version.{Version}
 use Rattle.column_file.specs.declared.file.ColumnFile.{ColumnFile}
-use Rattle.column_file.specs.declared.file.ColumnFile.TheVariants.{Tiny}
 use Rattle.flash_types.specs.declared.range.HandleRange.{HandleRange}
 use Rattle.stable_file.specs.declared.file.StableFile.{StableFile}
 use Rattle.delta_layer.specs.Files.{is_tiny}

@@ -1,7 +1,6 @@
 -- What the new slots say, in the terms of the laws on what takes the place of segments.
-use Rattle.std.specs.Prelude.{◌≡◌, ℕ, ◌≤◌, ◌-◌, Option, List, length, take, drop}
+use Rattle.std.specs.Prelude.{◌≡◌, ℕ, ◌≤◌, ◌-◌, Option, List, take, drop}
 use Rattle.column_block.specs.declared.cell.Version.{Version}
-use Rattle.column_file.specs.declared.file.ColumnFile.{ColumnFile}
 use Rattle.column_file.specs.declared.file.ColumnFile.TheVariants.{Tiny}
 use Rattle.delta_layer.specs.declared.built.Piece.{Piece}
 use Rattle.prefix_laws.specs.Tagged.{Tagged, tagged_of}

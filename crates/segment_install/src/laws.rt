@@ -33,11 +33,12 @@ pub fn compacted_slots_say_the_run<G>()
 /// What is built of a work has as many views and pieces as its job makes, of the ranges that it
 /// makes.
 pub fn builds_can_be_installed<G: Gripped>()
-    ensures { (columns : List Column) (rows : ℕ) (built : Built G) → IsBuilt G.Gripped.tells G.Gripped.bytes columns rows built → IsBuiltFor built.job built }
+    ensures { (columns : List Column) (rows : ℕ) (built : Built G)
+        → IsBuilt G.Gripped.tells G.Gripped.bytes columns rows built → IsBuiltFor built.job built }
 {}
 
-/// Where what is there at each count was good, it is so once an install is put; and so is all that is
-/// there.
+/// Where what is there at each count was good, it is so once an install is put; and so is all that
+/// is there.
 pub fn installs_keep_good<G: Gripped>()
     ensures counts { InstallsKeepCounts G.Gripped.tells G.Gripped.bytes }
     ensures all { InstallsKeepAll G.Gripped.tells G.Gripped.bytes }

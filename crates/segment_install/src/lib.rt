@@ -10,8 +10,8 @@ mod rest;
 mod staleness;
 
 pub use laws::{
-    builds_can_be_installed, compacted_slots_say_the_run, half_slots_say_their_part, installs_keep_good, installs_keep_order,
-    joined_slots_say_both, merged_slots_say_the_rest,
+    builds_can_be_installed, compacted_slots_say_the_run, half_slots_say_their_part,
+    installs_keep_good, installs_keep_order, joined_slots_say_both, merged_slots_say_the_rest,
 };
 pub use part::{Files, Part};
 pub use planned::{Install, numbers_for, plan, put};

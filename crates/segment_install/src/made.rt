@@ -88,7 +88,17 @@ fn slot_of<G: Drop>(
     named: usize,
     tags: Vec<u64>,
 ) -> Result<Slot<G>, Memory>
-    ensures { IfOk result (λ slot. slot ≡ record { id = segment.seg; range = segment.range; epoch = segment.epoch; files = segment.layer; stable = segment.stable; stable_number = number; named = named; tags = tags.items }) }
+    ensures { IfOk result (λ slot. slot
+        ≡ record {
+          id = segment.seg;
+          range = segment.range;
+          epoch = segment.epoch;
+          files = segment.layer;
+          stable = segment.stable;
+          stable_number = number;
+          named = named;
+          tags = tags.items;
+        }) }
 {
     match Slot::of_parts(segment, number, named, tags) {
         Ok(slot) => Ok(slot),
@@ -96,8 +106,8 @@ fn slot_of<G: Drop>(
     }
 }
 
-/// A slot in which the tiny file of this number, with these versions, stands for the named files from
-/// place `from` up to but without place `to`.
+/// A slot in which the tiny file of this number, with these versions, stands for the named files
+/// from place `from` up to but without place `to`.
 pub fn compacted_slot<G: Drop>(
     slot: &Slot<G>,
     from: usize,
@@ -149,7 +159,17 @@ fn new_slot<G: Drop>(
     named: usize,
     gathering: Gathering,
 ) -> Result<Slot<G>, Memory>
-    ensures { IfOk result (λ slot. slot ≡ record { id = id; range = range; epoch = 0; files = gathering.files; stable = part_file part; stable_number = part_number part; named = named; tags = gathering.tags }) }
+    ensures { IfOk result (λ slot. slot
+        ≡ record {
+          id = id;
+          range = range;
+          epoch = 0;
+          files = gathering.files;
+          stable = part_file part;
+          stable_number = part_number part;
+          named = named;
+          tags = gathering.tags;
+        }) }
 {
     let (layer, tags) = gathering.into_parts();
     let (number, file) = parted(part);
@@ -159,8 +179,8 @@ fn new_slot<G: Drop>(
     slot_of(segment, number, named, tags)
 }
 
-/// The slot of a half of a split: a new segment of this number with the files of a slot from a place
-/// on, clipped to its range.
+/// The slot of a half of a split: a new segment of this number with the files of a slot from a
+/// place on, clipped to its range.
 pub fn half_slot<G: Drop>(
     id: SegId,
     range: HandleRange,
@@ -193,7 +213,8 @@ pub fn joined_slot<G: Drop>(
 ) -> Result<Slot<G>, Memory>
     requires left { IsBehind left_taken left.now }
     requires right { IsBehind right_taken right.now }
-    ensures { IfOk result (λ new. new ≡ joined_slot id range part left_taken left.now right_taken right.now) }
+    ensures { IfOk result (λ new. new
+        ≡ joined_slot id range part left_taken left.now right_taken right.now) }
 {
     let mut gathering = Gathering::new(alloc);
     add_both_named(&mut gathering, left, left_taken, right, right_taken)?;

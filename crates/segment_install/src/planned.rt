@@ -18,8 +18,8 @@ use segment_list::{SegmentList, Slot};
 use segment_work::first_run;
 use std::alloc::Global;
 
-/// Slots that take the place of `count` others that stand side by side, from a place on, with all the
-/// memory that the putting needs.
+/// Slots that take the place of `count` others that stand side by side, from a place on, with all
+/// the memory that the putting needs.
 #[derive(Drop)]
 pub struct Install<G> {
     /// The place of the first slot that gives way.
@@ -199,7 +199,9 @@ fn news_at<G: Drop>(
     alloc: Global,
 ) -> Result<Vec<Slot<G>>, Memory>
     requires { CanInstallAt first place built.now slots.now }
-    ensures { IfOk result (λ news. AreInstalled built.now.job first files built.now (take (segments_for built.now.job) (drop place slots.now)) news.items) }
+    ensures { IfOk result
+        (λ news. AreInstalled built.now.job first files built.now (take
+        (segments_for built.now.job) (drop place slots.now)) news.items) }
 {
     match built.job {
         Job::Compact(_) => compacted(&slots[place], built, first, alloc),
@@ -226,9 +228,10 @@ fn room_for<G: Drop>(slots: &[Slot<G>], alloc: Global) -> Result<Vec<Slot<G>>, M
     }
 }
 
-/// Plans the install of what was built, with all memory that its putting needs. `files` are the open
-/// stable files of its pieces; the numbers from `first` on are those of the pieces' files in order,
-/// and then those of the new segments.
+/// Plans the install of what was built, with all memory that its putting needs. `files` are the
+/// open stable files of its pieces; the numbers from `first` on are those of the pieces' files in
+/// order, and then those of the new segments. `Memory` comes for want of memory alone, and where a
+/// slot's rows can't be counted.
 ///
 /// A compaction's tiny file, which has the number `first`, stands for the run of files that it was
 /// built of. A delta merge's piece stands for the stable part and the files that the view has. A

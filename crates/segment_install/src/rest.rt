@@ -23,7 +23,11 @@ pub fn add_named<G: Drop>(
     taken: usize,
 ) -> Result<(), Memory>
     requires { IsBehind taken slot.now }
-    ensures { OnOk result (gathering.new ≡ record gathering.old { files = gathering.old.files ++ clip_files range (rest_of taken slot.now).named }) }
+    ensures { OnOk result (gathering.new
+        ≡ record gathering.old {
+          files = gathering.old.files
+              ++ clip_files range (rest_of taken slot.now).named;
+        }) }
 {
     let end = greater(taken, slot.named());
     match gathering.add_named(range, slot.layer(), taken, end) {
@@ -41,7 +45,8 @@ pub fn add_others<G: Drop>(
     alloc: Global,
 ) -> Result<(), Memory>
     requires { IsBehind taken slot.now }
-    ensures { OnOk result (gathering.new ≡ with_pairs gathering.old (clip_pairs range (rest_of taken slot.now).others)) }
+    ensures { OnOk result (gathering.new
+        ≡ with_pairs gathering.old (clip_pairs range (rest_of taken slot.now).others)) }
 {
     let from = greater(taken, slot.named());
     let first = taken.saturating_sub(slot.named());
@@ -62,7 +67,12 @@ pub fn add_both_named<G: Drop>(
 ) -> Result<(), Memory>
     requires left { IsBehind left_taken left.now }
     requires right { IsBehind right_taken right.now }
-    ensures { OnOk result (gathering.new ≡ record gathering.old { files = gathering.old.files ++ (clip_files left.now.range (rest_of left_taken left.now).named ++ clip_files right.now.range (rest_of right_taken right.now).named) }) }
+    ensures { OnOk result (gathering.new
+        ≡ record gathering.old {
+          files = gathering.old.files
+              ++ (clip_files left.now.range (rest_of left_taken left.now).named
+              ++ clip_files right.now.range (rest_of right_taken right.now).named);
+        }) }
 {
     add_named(gathering, left.range(), left, left_taken)?;
     add_named(gathering, right.range(), right, right_taken)
@@ -79,7 +89,10 @@ pub fn add_both_others<G: Drop>(
 ) -> Result<(), Memory>
     requires left { IsBehind left_taken left.now }
     requires right { IsBehind right_taken right.now }
-    ensures { OnOk result (gathering.new ≡ with_pairs gathering.old (clip_pairs left.now.range (rest_of left_taken left.now).others ++ clip_pairs right.now.range (rest_of right_taken right.now).others)) }
+    ensures { OnOk result (gathering.new
+        ≡ with_pairs gathering.old (clip_pairs left.now.range
+        (rest_of left_taken left.now).others
+        ++ clip_pairs right.now.range (rest_of right_taken right.now).others)) }
 {
     add_others(gathering, left.range(), left, left_taken, alloc)?;
     add_others(gathering, right.range(), right, right_taken, alloc)

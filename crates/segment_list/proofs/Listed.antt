@@ -159,6 +159,7 @@ module _ {G : Type 0} where
     where
       one : (k : ℕ) (d : Slotted G) → key_of (get_or new k d) ≡ key_of (get_or old k d)
       one k d = sym (get_or-map key_of new k d) ∙ ap (λ (ks : List (ℕ × HandleRange)). get_or ks k (key_of d)) same ∙ get_or-map key_of old k d
+
       within : (k : ℕ) → k < length new → k < length old
       within k lt = omega (arith, lt, sym (length-map new key_of) ∙ ap length same ∙ length-map old key_of)
 

@@ -9,7 +9,7 @@ use Rattle.column_file.specs.declared.file.ColumnFile.{ColumnFile}
 use Rattle.flash_types.specs.Ranges.{has_any, least_handle}
 use Rattle.flash_types.specs.declared.range.HandleRange.{HandleRange}
 use Rattle.good_replica.specs.Good.{CoversFrom}
-use Rattle.segment_list.specs.Lists.{AreNoted, AreSegments, Cover, HaveNoted, CoverAlike, CoverTo, NumbersDiffer, range_alone, with_slots}
+use Rattle.segment_list.specs.Lists.{AreNoted, AreSegments, HaveNoted, CoverAlike, CoverTo, NumbersDiffer, range_alone, with_slots}
 use Rattle.segment_list.specs.Slots.{Slotted, clip_file, clip_files, file_speaks}
 use Rattle.segment_list.proofs.Listed.{cover_from, get_same}
 
@@ -183,6 +183,7 @@ module _ {G : Type 0} where
     where
       long : length (take place slots) ≡ place
       long = length-take-le place slots (omega (arith, within))
+
       first : AreNoted after (take place slots)
       first k d lt = (
           let low : k < place = omega (arith, lt, long) in
@@ -190,6 +191,7 @@ module _ {G : Type 0} where
           others (get_or (take place slots) k d).id (λ j e lj is. parts_differ (take place slots) (news ++ drop (place + count) slots) differ k j d lt (omega (arith, lj, length-append news (drop (place + count) slots))) (sym is ∙ ap (λ (s : Slotted G). s.id) (get_same news j e d lj ∙ sym (get_or_append_left news (drop (place + count) slots) d j lj))))
           ∙ forgot (get_or (take place slots) k d).id (λ j e ge lj is. olds k j d (omega (arith, low, ge)) (omega (arith, lj, within)) (ap (λ (s : Slotted G). s.id) (sym same) ∙ sym is ∙ ap (λ (s : Slotted G). s.id) (get_same slots j e d (omega (arith, lj, within)))))
           ∙ ap (λ (s : Slotted G). before s.id) same ∙ noted k d (omega (arith, low, within)) ∙ ap (λ (s : Slotted G). Some s.range.low) (sym same))
+
       last : AreNoted after (drop (place + count) slots)
       last k d lt = (
           let there : place + count + k < length slots = omega (arith, lt, length-drop (place + count) slots, within) in

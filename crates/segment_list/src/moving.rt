@@ -16,8 +16,8 @@ fn move_back<T: Drop>(from: &mut Vec<T>, place: usize, to: &mut Vec<T>)
     }
 }
 
-/// Puts elements in the place of `count` others. All of them move to `spare`, which has none and room
-/// for them.
+/// Puts elements in the place of `count` others. All of them move to `spare`, which has none and
+/// room for them.
 pub fn put_slots<T: Drop>(
     slots: &mut Vec<T>,
     place: usize,
@@ -28,7 +28,8 @@ pub fn put_slots<T: Drop>(
     requires within { place + count ≤ vec_len slots.old }
     requires empty { vec_len spare ≡ 0 }
     requires room { vec_len news + (vec_len slots.old - count) ≤ vec_capacity spare }
-    ensures { slots.new.items ≡ take place slots.old.items ++ (news.items ++ drop (place + count) slots.old.items) }
+    ensures { slots.new.items
+        ≡ take place slots.old.items ++ (news.items ++ drop (place + count) slots.old.items) }
 {
     let mut news = news;
     let mut moved = spare;

@@ -57,10 +57,7 @@ fn note(lows: &mut BTreeMap<SegId, Handle>, id: SegId, low: Handle) -> Result<()
 }
 
 // Notes where each of the slots begins. `Memory` comes where one can't be noted.
-fn note_all<G: Drop>(
-    lows: &mut BTreeMap<SegId, Handle>,
-    slots: &[Slot<G>],
-) -> Result<(), Memory>
+fn note_all<G: Drop>(lows: &mut BTreeMap<SegId, Handle>, slots: &[Slot<G>]) -> Result<(), Memory>
     requires { NumbersDiffer slots.now }
     ensures { OnOk result (HaveNoted (get nat_cmp lows.old) (get nat_cmp lows.new) slots.now) }
 {
@@ -314,13 +311,7 @@ impl<G: Drop> SegmentList<G> {
     /// It takes no memory that it must have: all slots move to `spare`, which has no element and room
     /// for all of them; and where there is none to note a number, that one is looked for among all
     /// slots from then on.
-    pub fn replace(
-        &mut self,
-        place: usize,
-        count: usize,
-        news: Vec<Slot<G>>,
-        spare: Vec<Slot<G>>,
-    )
+    pub fn replace(&mut self, place: usize, count: usize, news: Vec<Slot<G>>, spare: Vec<Slot<G>>)
         requires some { 0 < count }
         requires within { place + count ≤ length self.old }
         requires cover { CoverAlike (take count (drop place self.old)) news.items }

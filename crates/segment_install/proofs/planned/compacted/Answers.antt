@@ -1,13 +1,11 @@
-use Rattle.std.proofs.Common.{◌≡◌, ◌∙◌, sym, ap, subst, List, [], ◌∷◌, true, get_or}
+use Rattle.std.proofs.Common.{◌≡◌, ◌∙◌, sym, ap, subst, List, [], ◌∷◌, get_or}
 use Rattle.std.specs.List.{AllByRecursion}
 use Rattle.std.proofs.lemmas.Result.{IfOk-weaker}
-use Rattle.column_block.specs.declared.cell.Version.{Version}
 use Rattle.column_file.specs.declared.file.ColumnFile.TheVariants.{Tiny}
 use Rattle.delta_layer.specs.Repacked.{CanCompact}
 use Rattle.delta_layer.specs.declared.built.Piece.{Piece}
 use Rattle.delta_layer.specs.declared.view.SegmentView.{SegmentView}
 use Rattle.segment_laws.specs.Runs.{IsFirstRun}
-use Rattle.segment_list.specs.Slots.{Slotted}
 use Rattle.segment_work.specs.Jobs.{has_run}
 use Rattle.segment_install.specs.Plans.{IsCompacted}
 use Rattle.segment_install.specs.Slots.{Fits, compacted_slot}

@@ -1,6 +1,5 @@
-use Rattle.std.proofs.Common.{◌≡◌, ◌∙◌, ◌+◌, ◌<◌, sym, ap, subst, ℕ, Some, List, length, arith}
+use Rattle.std.proofs.Common.{◌≡◌, ◌∙◌, ◌+◌, sym, ap, subst, ℕ, Some, arith}
 use Rattle.std.specs.Prelude.{slice_get}
-use Rattle.delta_layer.specs.declared.built.Job.{Job}
 use Rattle.delta_layer.specs.declared.built.Job.TheVariants.{Compact, MergeDelta, Split, Merge}
 use Rattle.segment_work.specs.Begun.{segments_for}
 use Rattle.segment_install.specs.Plans.{AreHalvesBuilt, IsBothBuilt, IsOneBuilt}

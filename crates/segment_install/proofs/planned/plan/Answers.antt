@@ -1,4 +1,4 @@
-use Rattle.std.proofs.Common.{◌≡◌, ◌∙◌, ◌+◌, ◌≤◌, sym, ap, subst, ℕ, Some, None, List, length, take, drop, position, nat_eq}
+use Rattle.std.proofs.Common.{◌≡◌, ◌∙◌, ◌+◌, ◌≤◌, sym, ap, subst, ℕ, Some, List, length, take, drop, position, nat_eq}
 use Rattle.std.specs.Prelude.{vec_capacity}
 use Rattle.segment_list.specs.Slots.{Slotted}
 use Rattle.segment_work.specs.Begun.{segments_for}

@@ -1,4 +1,4 @@
-use Rattle.std.proofs.Common.{◌∙◌, sym, ap, Some, List}
+use Rattle.std.proofs.Common.{◌∙◌, sym, ap, List}
 use Rattle.std.specs.Prelude.{slice_get}
 use Rattle.column_file.specs.declared.file.ColumnFile.{ColumnFile}
 use Rattle.segment_install.proofs.Running.{no_tiny_from}

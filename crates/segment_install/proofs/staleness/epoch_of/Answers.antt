@@ -1,5 +1,5 @@
-use Rattle.std.proofs.Common.{◌≡◌, ◌∙◌, sym, ap, ℕ, Option, Some, None, List, get_or, nat_eq}
-use Rattle.std.specs.Prelude.{option_map, position, slice_get}
+use Rattle.std.proofs.Common.{◌≡◌, ◌∙◌, sym, ap, ℕ, Some, List, get_or, nat_eq}
+use Rattle.std.specs.Prelude.{option_map, position}
 use Rattle.std.proofs.lemmas.Option.{slice_get-get_or}
 use Rattle.segment_list.specs.Slots.{Slotted}
 use Rattle.segment_install.proofs.Placed.{found_none, found_there}

@@ -1,4 +1,4 @@
-use Rattle.std.proofs.Common.{◌≡◌, ◌≤◌, ◌+◌, ◌++◌, ℕ, drop, reverse, take}
+use Rattle.std.proofs.Common.{◌≡◌, ◌≤◌, ◌+◌, ◌++◌, drop, reverse, take}
 use Rattle.segment_list.proofs.moving.move_back.Given as goal
 
 abbrev pub invariant-loop-to : goal.invariant-loop-to

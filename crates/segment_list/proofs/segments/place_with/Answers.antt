@@ -1,4 +1,4 @@
-use Rattle.std.proofs.Common.{◌≡◌, ◌∙◌, sym, ap, arith, nat_eq}
+use Rattle.std.proofs.Common.{◌∙◌, sym, ap, arith, nat_eq}
 use Rattle.std.proofs.lemmas.Bool.{eq-eqb}
 use Rattle.segment_list.specs.Slots.{Slotted}
 use Rattle.segment_list.proofs.Listed.{first_at, nowhere}

@@ -1,4 +1,4 @@
-use Rattle.std.proofs.Common.{◌≡◌, ◌∙◌, ◌+◌, ◌-◌, ◌++◌, ap, sym, suc, ℕ, List, [], ◌∷◌, take, drop, arith}
+use Rattle.std.proofs.Common.{◌≡◌, ◌∙◌, ◌+◌, ◌-◌, ◌++◌, ap, suc, ℕ, List, [], ◌∷◌, take, drop, arith}
 use Rattle.std.specs.Prelude.{filter, slice_get}
 use Rattle.column_file.specs.declared.file.ColumnFile.{ColumnFile}
 use Rattle.delta_layer.specs.Files.{is_tiny}
