@@ -1,4 +1,3 @@
 pub mod Good
 pub mod Follows
-pub mod Changes
 pub mod Views

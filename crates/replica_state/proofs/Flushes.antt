@@ -168,13 +168,16 @@ module _ {G : Type 0} where
 
   named_order : (committed last other : ℕ) (slots : List (Slotted G)) → AllNamed slots → AllByRecursion (IsSlot committed last) slots → AllByRecursion (IsSlot other other) slots
   named_order committed last other [] named all = tt
-  named_order committed last other (s ∷ ss) named all = (record {
-    tagged = all.0.tagged;
-    tags = subst (AllByRecursion (λ (t : ℕ). (other < t) × (t ≤ other))) (sym named.0) tt;
-    named = all.0.named;
-    behind = all.0.behind;
-    rows = all.0.rows;
-  }, named_order committed last other ss named.1 all.1)
+  named_order committed last other (s ∷ ss) named all = (
+    record {
+      tagged = all.0.tagged;
+      tags = subst (AllByRecursion (λ (t : ℕ). (other < t) × (t ≤ other))) (sym named.0) tt;
+      named = all.0.named;
+      behind = all.0.behind;
+      rows = all.0.rows;
+    },
+    named_order committed last other ss named.1 all.1,
+  )
 
   pub core_checkpointed : (s : Core G) (next high generation : ℕ) → IsCore s → after_slots has_more s.numbers.next s.slots < next → s.numbers.high ≤ high → high ≤ length s.log.entries → s.numbers.generation ≤ generation → generation < next → IsCore (checkpointed next high generation s)
   core_checkpointed s next high generation is above no_lower within no_younger numbered =

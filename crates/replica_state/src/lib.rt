@@ -3,8 +3,8 @@
 #![tactic(auto)]
 
 mod apply;
-mod changes;
 mod asks;
+mod changes;
 mod laws;
 mod numbers;
 mod opening;

@@ -3,6 +3,5 @@
 
 #[cfg(test)]
 mod journal;
-
 #[cfg(test)]
 mod opening;
