@@ -2,3 +2,4 @@ mod Following
 mod Applying
 mod Committing
 mod SafePoint
+mod Purged

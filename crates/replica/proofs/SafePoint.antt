@@ -15,7 +15,7 @@ use Rattle.manifest_form.specs.States.{all_done}
 use Rattle.manifest_form.specs.declared.state.Edit.TheVariants.{SafePoint}
 use Rattle.manifest_form.specs.declared.state.State.{State}
 use Rattle.replica_state.specs.Core.{Core, IsCore}
-use Rattle.replica_store.specs.Naming.{is_file_in, is_named}
+use Rattle.replica_store.specs.Naming.{is_file_in}
 use Rattle.replica_store.specs.Store.{Stored, IsWhole}
 use Rattle.store_image.specs.Images.{AreRegionsRead, AreSegmentsRead, IsCountOf, Stands, columns_in}
 use Rattle.store_image.proofs.Frames.{read_on, regions_read_on}
@@ -122,7 +122,7 @@ retired_still : (m u : Manifest) (ts generation : ℕ) → Becomes m (edited m t
 retired_still m u ts generation becomes [] all = tt
 retired_still m u ts generation becomes (it ∷ its) all = (
   record {
-    unnamed = ap (λ (f : ℕ). is_named f u.state it.file) becomes.file ∙ ap (λ (st : State). is_named m.file st it.file) becomes.state ∙ all.0.unnamed;
+    unnamed = ap (λ (st : State). is_file_in it.file st) becomes.state ∙ all.0.unnamed;
     numbered = let less = all.0.numbered in let same : u.state.next ≡ m.state.next = ap (λ (st : State). st.next) becomes.state in omega (arith, less, same);
     before = all.0.before;
   },

@@ -3,11 +3,12 @@
 
 mod fault;
 mod laws;
+mod purge;
 mod reads;
 mod replica;
 mod retired;
 
-pub use fault::SafeError;
+pub use fault::{SafeError, StepError};
 pub use laws::replicas_follow;
 pub use replica::Replica;
 pub use retired::Retired;

@@ -1,0 +1,48 @@
+use Rattle.std.proofs.Common.{◌≤◌, sym, subst}
+use Rattle.replica_store.specs.Store.{IsWhole}
+use Rattle.replica.proofs.Applying.{from_same}
+use Rattle.replica.proofs.Following.{follows_itself}
+use Rattle.replica.proofs.Purged.{disk_follows, follows_as, learner_as, learner_purged, purged_follows}
+use Rattle.replica.proofs.replica.Replica.purge.Goals as goal
+
+pub returns-in_default-clause-follows : goal.returns-in_default-clause-follows
+returns-in_default-clause-follows g c = follows_itself g.D.Disk g.D.Reader.Grip.Gripped.bytes g.met.D.Disk.only_now c.args.self.now
+
+pub returns-in-Err-Memory-clause-follows : goal.returns-in-Err-Memory-clause-follows
+returns-in-Err-Memory-clause-follows g c =
+    let d = g.D.Disk in
+    let store = c.self.inside.store in
+    let whole : IsWhole d store = subst (λ s. IsWhole d s.store) (sym c.self.view_is) c.requires.whole in
+    from_same c.self.view_is
+    ((disk_follows d g.D.Reader.Grip.Gripped.bytes g.met.D.Disk.counts_now (record { store = store; core = c.self.inside.state; retired = c.self.inside.retired.items }) (c.told.ensures.kept whole) whole c.as_slice-2.result.now c.clear.new.store
+    c.clear.ensures.named.manifest c.clear.ensures.named.opened_faults c.clear.ensures.counted.later c.clear.ensures.any_moment))
+
+pub invariant_of-self-in-Err-Device : goal.invariant_of-self-in-Err-Device
+invariant_of-self-in-Err-Device g c =
+    learner_as c.set_kept_from.ensures c.keep_from.ensures
+    (learner_purged (record { store = c.self.inside.store; core = c.self.inside.state; retired = c.self.inside.retired.items }) c.clear.new.store c.clear.ensures.named.manifest c.args.kept_from c.self.invariant)
+
+pub returns-in-Err-Device-clause-follows : goal.returns-in-Err-Device-clause-follows
+returns-in-Err-Device-clause-follows g c =
+    let d = g.D.Disk in
+    let store = c.self.inside.store in
+    let whole : IsWhole d store = subst (λ s. IsWhole d s.store) (sym c.self.view_is) c.requires.whole in
+    let up : c.self.inside.state.numbers.kept_from ≤ c.args.kept_from = subst (λ s. s.core.numbers.kept_from ≤ c.args.kept_from) (sym c.self.view_is) c.requires.no_lower in
+    from_same c.self.view_is
+    (follows_as c.set_kept_from.ensures c.keep_from.ensures ((purged_follows d g.D.Reader.Grip.Gripped.bytes g.met.D.Disk.counts_now (record { store = store; core = c.self.inside.state; retired = c.self.inside.retired.items }) (c.told.ensures.kept whole) whole c.as_slice-2.result.now c.clear.new.store
+    c.clear.ensures.named.manifest c.clear.ensures.named.opened_faults c.clear.ensures.counted.later c.clear.ensures.any_moment c.args.kept_from up)))
+
+pub invariant_of-self-in-Ok-clear : goal.invariant_of-self-in-Ok-clear
+invariant_of-self-in-Ok-clear g c =
+    learner_as c.set_kept_from-in-Ok-clear.ensures c.keep_from-in-Ok-clear.ensures
+    (learner_purged (record { store = c.self.inside.store; core = c.self.inside.state; retired = c.self.inside.retired.items }) c.clear.new.store c.clear.ensures.named.manifest c.args.kept_from c.self.invariant)
+
+pub returns-clause-follows : goal.returns-clause-follows
+returns-clause-follows g c =
+    let d = g.D.Disk in
+    let store = c.self.inside.store in
+    let whole : IsWhole d store = subst (λ s. IsWhole d s.store) (sym c.self.view_is) c.requires.whole in
+    let up : c.self.inside.state.numbers.kept_from ≤ c.args.kept_from = subst (λ s. s.core.numbers.kept_from ≤ c.args.kept_from) (sym c.self.view_is) c.requires.no_lower in
+    from_same c.self.view_is
+    (follows_as c.set_kept_from-in-Ok-clear.ensures c.keep_from-in-Ok-clear.ensures ((purged_follows d g.D.Reader.Grip.Gripped.bytes g.met.D.Disk.counts_now (record { store = store; core = c.self.inside.state; retired = c.self.inside.retired.items }) (c.told.ensures.kept whole) whole c.as_slice-2.result.now c.clear.new.store
+    c.clear.ensures.named.manifest c.clear.ensures.named.opened_faults c.clear.ensures.counted.later c.clear.ensures.any_moment c.args.kept_from up)))
