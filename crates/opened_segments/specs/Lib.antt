@@ -1,0 +1,5 @@
+pub mod Errors
+pub mod Faults
+pub mod Opened
+pub mod Tails
+pub mod Laws
