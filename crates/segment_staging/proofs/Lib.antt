@@ -1,0 +1,4 @@
+pub mod Numbered
+pub mod Written
+pub mod Reading
+pub mod Named
