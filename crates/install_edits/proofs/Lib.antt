@@ -1,0 +1,4 @@
+pub mod Loops
+pub mod Ids
+pub mod Ranges
+pub mod Changed
