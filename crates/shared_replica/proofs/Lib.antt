@@ -1,0 +1,3 @@
+pub mod Turning
+pub mod Seeing
+pub mod Begun

@@ -1,0 +1,4 @@
+pub mod Turns
+pub mod Replicas
+pub mod Following
+pub mod Replies
