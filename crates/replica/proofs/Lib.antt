@@ -1,4 +1,4 @@
-mod Following
+pub mod Following
 mod Applying
 mod Committing
 mod SafePoint

@@ -3,7 +3,7 @@ use Rattle.std.proofs.Common.{◌≡◌, ◌∙◌, ◌⊎◌, inl, inr, ⊎_eli
 use Rattle.flash_io.specs.Image.{Image}
 use Rattle.flash_io.specs.declared.disk.Disk.{Ghosts}
 use Rattle.replica.specs.Learner.{Learner}
-use Rattle.shared_replica.specs.Replicas.{follows_itself, follows_on}
+use Rattle.replica.proofs.Following.{follows_itself, follows_on}
 use Rattle.shared_replica.specs.Turns.{TurnFollows}
 
 module _ {D R G : Type 0} {d : Ghosts D R G} {bytes : G → List ℕ} where

@@ -1,4 +1,3 @@
 pub mod Turns
-pub mod Replicas
 pub mod Following
 pub mod Replies

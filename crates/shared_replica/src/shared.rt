@@ -28,7 +28,7 @@ pub type ReplicaSeat<D> = Seat<Turned<D>>;
 
 /// A replica that several threads share, one step at a time.
 pub struct Shared<D: Disk> {
-    pub turn: Turn<Turned<D>>,
+    pub(crate) turn: Turn<Turned<D>>,
 }
 
 impl<D: Disk> Shared<D> {
