@@ -1,7 +1,7 @@
 // The removal of files that nothing needs.
 ghost use Rattle.std.specs.Prelude.{◌≡◌, ◌≤◌, ◌⊎◌, OnOk, OnErr, IfOk, IsErrOf};
 ghost use Rattle.replica_state.specs.Changes.{with_kept_from};
-ghost use Rattle.replica_store.specs.Store.{Counted, HasFailed, IsWhole};
+ghost use Rattle.replica_store.specs.Store.{Counted, HasFailed, IsWhole, Untouched};
 ghost use Rattle.replica.specs.Follows.{Follows};
 ghost use Rattle.replica.specs.Learner.{SameState};
 ghost use Rattle.replica.specs.Purging.{HasNeededAlone, HasPurged, HasRemoved, KeepsNeeded, needed_files, retired_from};
@@ -53,6 +53,7 @@ impl<D: Disk> Replica<D> {
         ensures device { IsErrOf result StepError.Device → HasFailed D.Disk self.old.store self.new.store }
         ensures refused { OnErr result (SameState self.new self.old ⊎ HasPurged kept_from self.old self.new) }
         ensures memory { IsErrOf result StepError.Memory → SameState self.new self.old }
+        ensures untouched { IsErrOf result StepError.Memory → Untouched D.Disk self.old.store self.new.store }
         ensures counted { Counted D.Disk self.old.store self.new.store }
     {
         self.store.told();

@@ -1,5 +1,6 @@
-use Rattle.std.proofs.Common.{◌≤◌, sym, subst}
-use Rattle.replica_store.specs.Store.{IsWhole}
+use Rattle.std.proofs.Common.{◌≤◌, Err, sym, ap, subst}
+use Rattle.flash_io.proofs.Runs.{untouched_none}
+use Rattle.replica_store.specs.Store.{IsWhole, Untouched}
 use Rattle.replica.proofs.Applying.{from_same}
 use Rattle.replica.proofs.Following.{follows_itself}
 use Rattle.replica.proofs.Purged.{disk_follows, follows_as, learner_as, learner_purged, purged_follows}
@@ -7,6 +8,12 @@ use Rattle.replica.proofs.replica.Replica.purge.Goals as goal
 
 pub returns-in_default-clause-follows : goal.returns-in_default-clause-follows
 returns-in_default-clause-follows g c = follows_itself g.D.Disk g.D.Reader.Grip.Gripped.bytes g.met.D.Disk.only_now c.args.self.now
+
+pub returns-in_default-clause-untouched : goal.returns-in_default-clause-untouched
+returns-in_default-clause-untouched g c = λ is. untouched_none g.D.Disk.files g.D.Disk.may_leave g.D.Disk.moment g.D.Disk.left_since g.met.D.Disk.only_now c.args.self.now.store.disk
+
+pub returns-in-Err-Memory-clause-untouched : goal.returns-in-Err-Memory-clause-untouched
+returns-in-Err-Memory-clause-untouched g c = λ is. subst (λ s. Untouched g.D.Disk s.store c.clear.new.store) c.self.view_is (c.in-Err-Memory.ensures.memory (ap Err c.in-Err-Memory.field-0-is))
 
 pub returns-in-Err-Memory-clause-follows : goal.returns-in-Err-Memory-clause-follows
 returns-in-Err-Memory-clause-follows g c =
