@@ -1,4 +1,12 @@
 mod Following
 mod Applying
 mod Committing
+mod Steps
 mod SafePoint
+mod Staged
+mod Puts
+mod Flushed
+mod Reached
+mod OneFlush
+mod Checkpointed
+mod OneCheckpoint

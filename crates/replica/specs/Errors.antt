@@ -4,6 +4,8 @@ use Rattle.manifest.specs.declared.fault.CommitError.{CommitError}
 use Rattle.manifest.specs.declared.fault.CommitError.TheVariants as fault
 use Rattle.replica.specs.declared.fault.SafeError.{SafeError}
 use Rattle.replica.specs.declared.fault.SafeError.TheVariants as error
+use Rattle.replica.specs.declared.fault.StepError.{StepError}
+use Rattle.replica.specs.declared.fault.StepError.TheVariants as step
 
 abbrev pub safe_error : CommitError → SafeError
 safe_error fault.Device = error.Device
@@ -15,3 +17,7 @@ IfLower ts current (Ok done) = current ≤ ts
 IfLower ts current (Err (error.Lower told)) = (told ≡ current) × (ts < current)
 IfLower ts current (Err error.Device) = current ≤ ts
 IfLower ts current (Err error.Memory) = current ≤ ts
+
+abbrev pub step_error : CommitError → StepError
+step_error fault.Device = step.Device
+step_error fault.Memory = step.Memory

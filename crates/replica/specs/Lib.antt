@@ -2,3 +2,4 @@ pub mod Names
 pub mod Learner
 pub mod Follows
 pub mod Errors
+pub mod Steps

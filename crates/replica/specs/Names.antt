@@ -4,7 +4,7 @@ use Rattle.log_laws.specs.Chains.{chain_at}
 use Rattle.manifest.specs.declared.store.Manifest.{Manifest}
 use Rattle.manifest_form.specs.declared.recover.Recovered.{Recovered}
 use Rattle.replica_state.specs.Core.{Core}
-use Rattle.replica_store.specs.Naming.{is_named}
+use Rattle.replica_store.specs.Naming.{is_file_in}
 pub use Rattle.segment_flush.specs.Names.{name_of, stored_of}
 use Rattle.store_image.specs.Images.{columns_in}
 use Rattle.replica.specs.declared.retired.Retired.{Retired}
@@ -22,6 +22,6 @@ module _ {G : Type 0} where
 
 -- a file that went out of use, at a generation before the current one
 pub record IsRetired (m : Manifest) (generation : ℕ) (it : Retired) : Type 0 where
-  pub unnamed : is_named m.file m.state it.file ≡ false
+  pub unnamed : is_file_in it.file m.state ≡ false
   pub numbered : it.file < m.state.next
   pub before : it.generation < generation

@@ -28,9 +28,9 @@ use std::marker::Model;
 /// went out of use and still stand on the disk.
 #[derive(Drop)]
 pub struct Replica<D: Disk> {
-    store: Store<D>,
-    state: State<<D::Reader as Reader>::Grip>,
-    retired: Vec<Retired>,
+    pub(crate) store: Store<D>,
+    pub(crate) state: State<<D::Reader as Reader>::Grip>,
+    pub(crate) retired: Vec<Retired>,
 }
 
 impl<D: Disk> Model for Replica<D> {
