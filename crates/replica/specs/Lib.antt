@@ -3,3 +3,4 @@ pub mod Learner
 pub mod Follows
 pub mod Errors
 pub mod Purging
+pub mod Steps

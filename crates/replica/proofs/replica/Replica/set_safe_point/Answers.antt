@@ -25,9 +25,9 @@ returns-in_err-commit-clause-follows g c =
     let whole : IsWhole d store = subst (λ s. IsWhole d s.store) (sym c.self.view_is) c.requires.whole in
     let edits : c.as_slice.result.now ≡ SafePoint c.args.ts ∷ [] = search rules in
     let up : c.self.inside.state.numbers.safe_point ≤ c.args.ts = search rules in
-    from_same c.self.view_is (failed d g.D.Reader.Grip.Gripped.bytes (record { store = store; core = c.self.inside.state; retired = c.self.inside.retired.items }) c.told.ensures.order c.self.invariant.names (c.told-2.ensures.kept whole) whole c.args.ts up g.met.D.Disk.counts_now c.commit.new.self
-    (λ sound. subst (λ es. LeavesOnly d.moment d.left_since store.disk c.commit.new.self.disk (OldOrNew (d.may_leave store.disk) m.file (has_of m) (has_with m (all_done m.state es)))) edits c.commit.ensures.any_moment)
-    c.in_err-commit.ensures.refused c.commit.ensures.opened_faults c.commit.ensures.counted.later)
+    from_same c.self.view_is (failed d g.D.Reader.Grip.Gripped.bytes g.met.D.Disk.counts_now g.met.D.Disk.only_now (record { store = store; core = c.self.inside.state; retired = c.self.inside.retired.items }) c.told.ensures.order c.self.invariant.names (c.told-2.ensures.kept whole) whole c.args.ts up c.commit.new.self
+    (subst (λ es. LeavesOnly d.moment d.left_since store.disk c.commit.new.self.disk (OldOrNew (d.may_leave store.disk) m.file (has_of m) (has_with m (all_done m.state es)))) edits c.commit.ensures.any_moment)
+    c.commit.ensures.opened_faults c.commit.ensures.counted.later c.in_err-commit.ensures.refused)
 
 pub invariant_of-self-2 : goal.invariant_of-self-2
 invariant_of-self-2 g c =
@@ -49,6 +49,6 @@ returns-clause-follows g c =
     let up : c.self.inside.state.numbers.safe_point ≤ c.args.ts = search rules in
     from_same c.self.view_is
     (with_same c.set_safe_point.ensures
-    (succeeded d g.D.Reader.Grip.Gripped.bytes (record { store = store; core = c.self.inside.state; retired = c.self.inside.retired.items }) c.told.ensures.order c.self.invariant.names (c.told-2.ensures.kept whole) whole c.args.ts up g.met.D.Disk.counts_now c.commit.new.self
-    (λ sound. subst (λ es. LeavesOnly d.moment d.left_since store.disk c.commit.new.self.disk (OldOrNew (d.may_leave store.disk) m.file (has_of m) (has_with m (all_done m.state es)))) edits c.commit.ensures.any_moment)
-    becomes c.in_ok-commit.ensures.done.kept c.commit.ensures.opened_faults c.commit.ensures.counted.later))
+    (succeeded d g.D.Reader.Grip.Gripped.bytes g.met.D.Disk.counts_now g.met.D.Disk.only_now (record { store = store; core = c.self.inside.state; retired = c.self.inside.retired.items }) c.told.ensures.order c.self.invariant.names (c.told-2.ensures.kept whole) whole c.args.ts up c.commit.new.self
+    (subst (λ es. LeavesOnly d.moment d.left_since store.disk c.commit.new.self.disk (OldOrNew (d.may_leave store.disk) m.file (has_of m) (has_with m (all_done m.state es)))) edits c.commit.ensures.any_moment)
+    c.commit.ensures.opened_faults c.commit.ensures.counted.later becomes c.in_ok-commit.ensures.done.kept))
