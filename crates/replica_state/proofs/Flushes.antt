@@ -1,6 +1,6 @@
 -- What is in memory stays in order where slots are flushed.
 use Rattle.std.proofs.Common.{◌≡◌, ◌≢◌, ◌∙◌, ℕ, suc, ◌+◌, ◌<◌, ◌≤◌, Bool, true, false, cond, List, [], ◌∷◌, length, set, Option, Some, None, refl, sym, ap, subst, arith, nat_lt}
-use Rattle.std.specs.Prelude.{◌||◌, slice_get}
+use Rattle.std.specs.Prelude.{slice_get}
 use Rattle.std.specs.List.{AllByRecursion, AllPairs, list_any}
 use Rattle.std.proofs.lemmas.Bool.Decides.{nat_tests}
 use Rattle.column_block.specs.Suiting.{Suits}
@@ -12,13 +12,13 @@ use Rattle.good_replica.specs.Trail.{DeltaFile}
 use Rattle.segment_flush.specs.Flushing.{after_one, after_slots, flushed_slots, has_more, is_slot, one_flushed}
 use Rattle.segment_flush.proofs.Flushed.{one_flush}
 use Rattle.segment_flush.proofs.Planned.{at_place}
-use Rattle.segment_list.specs.Flushes.{IsFlushOf, after_file, after_files, flushed_file, flushed_files, flushed_slot}
+use Rattle.segment_list.specs.Flushes.{IsFlushOf, after_files, flushed_files, flushed_slot}
 use Rattle.segment_list.specs.declared.flush.Flush.{Flush}
 use Rattle.segment_list.specs.Order.{IsSlot}
 use Rattle.segment_list.specs.Slots.{Slotted}
 use Rattle.segment_list.proofs.Flushing.{in_order}
 use Rattle.replica_state.specs.Changes.{AllNamed, checkpointed, with_flushes}
-use Rattle.replica_state.specs.Core.{AreSlots, Core, IsCore, IsFileBelow, IsNumberBelow, IsNumbered, SlotSuits}
+use Rattle.replica_state.specs.Core.{Core, IsCore, IsFileBelow, IsNumberBelow, IsNumbered, SlotSuits}
 
 -- ---- numbers
 

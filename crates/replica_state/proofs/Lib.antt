@@ -4,3 +4,4 @@ pub mod Applies
 pub mod Cutting
 pub mod Opened
 pub mod Flushes
+pub mod Installing

@@ -2,6 +2,8 @@
 use Rattle.std.specs.Prelude.{◌≡◌, ℕ, Bool, List, [], length}
 use Rattle.std.specs.List.{AllByRecursion}
 use Rattle.segment_flush.specs.Flushing.{after_slots, flushed_slots, has_more}
+use Rattle.segment_install.specs.Goodness.{slots_after}
+use Rattle.segment_install.specs.declared.planned.Install.{Install}
 use Rattle.segment_list.specs.Slots.{Slotted}
 use Rattle.replica_state.specs.Core.{Core}
 
@@ -40,3 +42,10 @@ module _ {G : Type 0} where
   -- A checkpoint: all that isn't named is flushed, Next is one past the region file's number, High and the generation are these, and all that is applied is committed.
   abbrev pub checkpointed : (next high generation : ℕ) → Core G → Core G
   checkpointed next high generation s = with_checkpoint (with_generation generation (with_next next (with_flushes has_more high s)))
+
+  -- The slots of an install stand in the place of those that give way; Next, High and the generation are these.
+  abbrev pub with_install : Install G → (next high generation : ℕ) → Core G → Core G
+  with_install install next high generation s = record s {
+    slots = slots_after install s.slots;
+    numbers = record s.numbers { next = next; high = high; generation = generation };
+  }

@@ -5,3 +5,4 @@ pub mod Opening
 pub mod Changes
 pub mod Asks
 pub mod Works
+pub mod Installs

@@ -5,6 +5,7 @@
 mod apply;
 mod asks;
 mod changes;
+mod installs;
 mod laws;
 mod numbers;
 mod opening;
@@ -15,7 +16,7 @@ mod works;
 
 pub use apply::Applied;
 pub use asks::ReadRefusal;
-pub use laws::applied_states_keep_sets;
+pub use laws::{applied_states_keep_sets, installed_slots_are_in_order};
 pub use numbers::Numbers;
 pub use state::State;
 pub use works::{Task, build};

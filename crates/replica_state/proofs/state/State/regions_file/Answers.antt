@@ -1,7 +1,6 @@
-use Rattle.std.proofs.Common.{rules, ◌≡◌, ◌∙◌, [], ◌++◌, List, ℕ, Ok, ap, sym, subst, refl}
+use Rattle.std.proofs.Common.{rules, ◌≡◌, ◌∙◌, ap, subst}
 use Rattle.std.specs.Arc.{arc_value}
 use Rattle.committed_log.specs.Lawful.{IsLawful}
-use Rattle.committed_log.specs.Log.{Log}
 use Rattle.region_file.specs.Regions.{regions_of}
 use Rattle.region_file.specs.Spelling as spelling
 use Rattle.region_table.specs.Counting.{applied_in}
