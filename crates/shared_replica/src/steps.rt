@@ -48,8 +48,9 @@ impl<D: Disk> Shared<D> {
     /// Writes a segment's versions in memory to tiny files and names all of its delta, in one commit,
     /// and answers how many versions. `Stopped` exactly where the disk of the replica that was held has
     /// failed since the opening, with the count of its faults; then `NoRoom` exactly where its store has
-    /// no room, with its Next; then `NoSegment` exactly where no segment of it has that number. After an
-    /// error what is in memory is as before; after `Device` the disk may have either state.
+    /// no room, with its Next; then `NoSegment` with this number exactly where no segment of it has that
+    /// number. After an error what is in memory is as before; after `Device` the disk may have either
+    /// state.
     pub fn flush<R: Wait>(
         &self,
         rt: &R,
