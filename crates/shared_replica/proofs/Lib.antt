@@ -1,3 +1,4 @@
 pub mod Turning
 pub mod Seeing
 pub mod Begun
+pub mod Stepping

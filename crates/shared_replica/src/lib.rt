@@ -5,10 +5,11 @@
 mod fault;
 mod laws;
 mod shared;
+mod steps;
 mod turned;
 mod works;
 
-pub use fault::WorkError;
+pub use fault::{SharedError, WorkError};
 pub use laws::what_was_seen_stays;
 pub use shared::{ReplicaSeat, Shared};
 pub use turned::Turned;
